@@ -1,0 +1,51 @@
+-- The hours of a run by arithmetic on the circle of the week.
+use Prim.Native.Nat.{ℕ, zero, suc, _+_, _-_, _%_, _≤_, _<_, min}
+use mathlib.Core.Path.{_≡_, refl, sym, ap, subst, _∙_}
+use mathlib.Core.Bool.{Bool, true, false}
+use native.Mathlib.Omega.{arith}
+use lib.Dec.{eqb, ltb, leb}
+use Rattle.std.proofs.shelf.Tests.{lt-ltb, le-ltb, ltb-true, ltb-false, eqb-true, eq-eqb}
+use Rattle.calendar.specs.Week.{any, least, later, covers, until}
+use Rattle.calendar.proofs.Sums.{bool-same, any-intro, any-elim, any-empty}
+use Rattle.calendar.proofs.Leasts.{Least, least-is, least-none, least-short}
+
+-- an hour of the week is covered where it comes soon enough after the first
+pub covers-near : (f n h : ℕ) → f ≤ 336 → h < 168 → covers f n h ≡ ltb ((h + 336 - f) % 168) n
+unfolding covers
+covers-near f n h b w =
+    bool-same (any n (λ j. eqb (later f j) h)) (ltb ((h + 336 - f) % 168) n)
+    (λ e. let k = any-elim n (λ j. eqb (later f j) h) e in let q : later f (k .0) ≡ h = eqb-true (later f (k .0)) h (k .2) in lt-ltb ((h + 336 - f) % 168) n (omega (arith, k .1)))
+    (λ e. let q = ltb-true ((h + 336 - f) % 168) n e in any-intro n (λ j. eqb (later f j) h) ((h + 336 - f) % 168) q (eq-eqb (later f ((h + 336 - f) % 168)) h (omega arith)))
+
+-- a run of no hours covers none
+pub covers-none : (f h : ℕ) → covers f 0 h ≡ false
+unfolding covers
+covers-none f h = any-empty (λ j. eqb (later f j) h)
+
+-- it begins at once where its first hour is covered, and else where the run begins
+pub until-none : (f h : ℕ) → until f 0 h ≡ 168
+unfolding until
+until-none f h = least-none 168 (λ j. covers f 0 (later h j)) (λ j _. covers-none f (later h j))
+
+pub until-now : (f n h : ℕ) → f ≤ 336 → h ≤ 336 → (h + 336 - f) % 168 < n → until f n h ≡ 0
+unfolding until
+until-now f n h a b q =
+    least-is 168 (λ j. covers f n (later h j)) 0 (record {
+      most = omega arith;
+      before = λ j z. absurd (omega (arith, z));
+      at = λ _. covers-near f n (later h 0) a (omega arith) ∙ lt-ltb ((later h 0 + 336 - f) % 168) n (omega arith);
+    })
+
+pub until-first : (f n h : ℕ) → f ≤ 336 → h ≤ 336 → 0 < n → n ≤ (h + 336 - f) % 168 → until f n h ≡ (f + 336 - h) % 168
+unfolding until
+until-first f n h a b p q =
+    least-is 168 (λ j. covers f n (later h j)) ((f + 336 - h) % 168) (record {
+      most = omega arith;
+      before = λ j z. covers-near f n (later h j) a (omega arith) ∙ le-ltb ((later h j + 336 - f) % 168) n (omega arith);
+      at = λ _. covers-near f n (later h ((f + 336 - h) % 168)) a (omega arith) ∙ lt-ltb ((later h ((f + 336 - h) % 168) + 336 - f) % 168) n (omega arith);
+    })
+
+-- the hours of a run that come before one that another run covers
+pub until-within : (n f k h : ℕ) → n ≤ 168 → least n (λ j. covers f k (later h j)) ≡ min n (until f k h)
+unfolding until
+until-within n f k h b = least-short n 168 (λ j. covers f k (later h j)) b

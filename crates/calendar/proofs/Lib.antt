@@ -1,0 +1,16 @@
+pub mod Sums
+pub mod Leasts
+pub mod Circle
+pub mod Plants
+pub mod Takens
+pub mod Clocked
+pub mod Windowed
+pub mod Props
+pub mod Kept
+pub mod Tabled
+pub mod Made
+pub mod Grown
+pub mod Permuted
+pub mod Carded
+pub mod Counted
+pub mod Gaps

@@ -1,0 +1,6 @@
+pub mod Week
+pub mod Numbers
+pub mod Meaning
+pub mod Layers
+pub mod Rows
+pub mod Making

@@ -1,0 +1,3 @@
+pub mod hours;
+pub mod refusal;
+pub mod run;
