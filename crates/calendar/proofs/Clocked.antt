@@ -61,7 +61,7 @@ module _ (o : ℕ) (small : o < 168) (m : Meaning) where
   room-clocked = ap (λ n. m .limit - n) count-clocked
 
   pub inside-clocked : (l c h : ℕ) → h < 168 → inside (clocked o m) l c h ≡ inside m l c (later h o)
-  unfolding within clocked
+  unfolding clocked
   inside-clocked l c h b =
       ap (λ t. (leb 1 l && leb l (m .links)) && ((leb 1 c && leb c (m .channels)) && t)) (lt-ltb h 168 b ∙ sym (lt-ltb (later h o) 168 (omega arith)))
 

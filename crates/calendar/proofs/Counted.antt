@@ -105,7 +105,7 @@ module _ (ls cs : ℕ) (r : Run) where
 
 -- the held cells of a link, row by row
 pub rows-held : (rows : List Run) (ls cs : ℕ) → Kept rows ls cs → (l : ℕ) → held-count (tabled rows ls cs) l ≡ total (length rows) (λ i. row-held (getD rows i no-run) l)
-unfolding row-live tabled
+unfolding row-live
 rows-held rows ls cs k l =
     let S : ℕ → ℕ → ℕ → ℕ = λ i c f. cond (starts (getD rows i no-run) l (suc c) f) (getD rows i no-run .hours) 0 in
     held-live (tabled rows ls cs) (k .sound) l

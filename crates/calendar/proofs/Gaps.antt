@@ -26,13 +26,11 @@ rows-on rows i r j = any i (λ k. row-on (getD rows k no-run) r j)
 
 module _ (row r : Run) (n : ℕ) where
   pub gap-on : n ≤ 168 → (eqb (r .link) (row .link) && eqb (r .channel) (row .channel)) ≡ true → least n (row-on row r) ≡ min (until (row .first) (row .hours) (r .first)) n
-  unfolding on-cell
   gap-on b e =
       least-cong n (row-on row r) (λ j. covers (row .first) (row .hours) (later (r .first) j)) (λ j _. ap (λ x. x && covers (row .first) (row .hours) (later (r .first) j)) e)
       ∙ until-within n (row .first) (row .hours) (r .first) b ∙ omega arith
 
   pub gap-off : (eqb (r .link) (row .link) && eqb (r .channel) (row .channel)) ≡ false → least n (row-on row r) ≡ n
-  unfolding on-cell
   gap-off e = least-none n (row-on row r) (λ j _. ap (λ x. x && covers (row .first) (row .hours) (later (r .first) j)) e)
 
 -- a loop over the rows
@@ -47,7 +45,7 @@ gap-more rows r n i a b p q =
 
 -- the free hours of a run in a timetable, by its rows
 pub rows-free : (rows : List Run) (ls cs : ℕ) → Kept rows ls cs → (r : Run) → proper (tabled rows ls cs) r ≡ true → least (r .hours) (rows-on rows (length rows) r) ≡ free-hours (tabled rows ls cs) r
-unfolding free-hours taken meets
+unfolding free-hours meets
 rows-free rows ls cs k r ok =
     least-cong (r .hours) (rows-on rows (length rows) r) _ (λ j h.
     sym (held-rows rows ls cs k (r .link) (r .channel) (later (r .first) j))
@@ -55,7 +53,7 @@ rows-free rows ls cs k r ok =
 
 -- in a plant where no cell of the run is closed, a cell of it is held exactly where it is not free all its hours
 pub free-meets : (m : Meaning) (r : Run) → meets (m .closed) r ≡ false → ltb (free-hours m r) (r .hours) ≡ meets (is-held m) r
-unfolding free-hours taken meets
+unfolding free-hours meets
 free-meets m r none =
     let C : ℕ → Bool = λ j. m .closed (r .link) (r .channel) (later (r .first) j) in
     let T : ℕ → Bool = λ j. is-held m (r .link) (r .channel) (later (r .first) j) in

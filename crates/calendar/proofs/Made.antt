@@ -15,11 +15,10 @@ use Rattle.calendar.specs.declared.run.Run.{Run}
 use Rattle.calendar.proofs.Tabled.{dead-rows, empty-kept}
 
 pub empty-open : (rows : List Run) (ls cs n : ℕ) → length rows ≡ n → ((j : ℕ) → j < length rows → getD rows j no-run .hours ≡ 0) → tabled rows ls cs ≡ open-plant ls cs n
-unfolding tabled open-plant
+unfolding open-plant
 empty-open rows ls cs n e none = λ i. record { links = ls; channels = cs; limit = e i; closed = λ x y h. not (within ls cs x y h); live = λ l c f. dead-rows rows none l c f i }
 
 pub sizes-parts : (l c : ℕ) → sizes-fit l c ≡ true → (1 ≤ l) × (l ≤ 40) × (1 ≤ c) × (c ≤ 16)
-unfolding sizes-fit
 sizes-parts l c h =
     let p = and-parts (leb 1 l && leb l 40) (leb 1 c && leb c 16) h in
     let a = and-parts (leb 1 l) (leb l 40) (p .0) in

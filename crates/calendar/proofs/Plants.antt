@@ -17,6 +17,7 @@ use Rattle.calendar.specs.Meaning.{size-of, fits, Meaning, Sound, within, insi
 use Rattle.calendar.specs.declared.run.Run.{Run}
 use Rattle.calendar.specs.declared.refusal.PlantRefusal.the-variants.{OutOfRange, CellClosed, CellHeld, NoRoom, NoSuchRun}
 use Rattle.std.specs.declared.result.Result.the-variants.{Ok, Err}
+use Rattle.calendar.proofs.Circle.{covers-late}
 use Rattle.calendar.proofs.Sums.{bool-same, any-intro, any-elim, any-cong, any-false, any-none}
 
 pub eqb-same : (a b c d : ℕ) → (a ≡ b → c ≡ d) → (c ≡ d → a ≡ b) → eqb a b ≡ eqb c d
@@ -26,14 +27,6 @@ eqb-same a b c d f g = bool-same (eqb a b) (eqb c d) (λ e. eq-eqb c d (f (eqb-t
 pub proper-size : (m : Meaning) (r : Run) (s : Size) → s ≡ size-of m → fits (s .links) (s .channels) r ≡ proper m r
 unfolding proper
 proper-size m r s e = ap (λ x. fits (x .links) (x .channels) r) e
-
--- one cell is a run of one hour
-pub fits-cell : (ls cs l c h : ℕ) → fits ls cs (record { link = l; channel = c; first = h; hours = 1 }) ≡ within ls cs l c h
-fits-cell ls cs l c h = both (within ls cs l c h)
-  where
-    both : (b : Bool) → (b && true) ≡ b
-    both true = refl
-    both false = refl
 
 pub hold-same : (m n : Meaning) (r s : Run) → proper m r ≡ proper n s → meets (m .closed) r ≡ meets (n .closed) s → meets (is-held m) r ≡ meets (is-held n) s → room-of m ≡ room-of n → hold-number m r ≡ hold-number n s
 unfolding hold-number
@@ -55,7 +48,6 @@ record Inside (m : Meaning) (l c h : ℕ) : Type 0 where
   pub hour : h < 168
 
 pub inside-parts : (m : Meaning) (l c h : ℕ) → inside m l c h ≡ true → (1 ≤ l) × (l ≤ m .links) × (1 ≤ c) × (c ≤ m .channels) × (h < 168)
-unfolding within
 inside-parts m l c h e =
     let a = and-parts (leb 1 l && leb l (m .links)) ((leb 1 c && leb c (m .channels)) && ltb h 168) e in
     let b = and-parts (leb 1 l) (leb l (m .links)) (a .0) in
@@ -64,7 +56,6 @@ inside-parts m l c h e =
     (leb-true 1 l (b .0), leb-true l (m .links) (b .1), leb-true 1 c (f .0), leb-true c (m .channels) (f .1), ltb-true h 168 (d .1))
 
 pub inside-from : (m : Meaning) (l c h : ℕ) → 1 ≤ l → l ≤ m .links → 1 ≤ c → c ≤ m .channels → h < 168 → inside m l c h ≡ true
-unfolding within
 inside-from m l c h p q r s t =
     and-from (leb 1 l && leb l (m .links)) ((leb 1 c && leb c (m .channels)) && ltb h 168)
     (and-from (leb 1 l) (leb l (m .links)) (le-leb 1 l p) (le-leb l (m .links) q))
@@ -98,10 +89,6 @@ after-hold-err m r e = rw e
 pub after-release-err : (m : Meaning) (r : Run) → accepted (release-number m r) ≡ false → after-release m r ≡ m
 unfolding after-release
 after-release-err m r e = rw e
-
-pub covers-late : (f n h : ℕ) → 168 ≤ h → covers f n h ≡ false
-unfolding covers
-covers-late f n h b = any-false n (λ j. eqb (later f j) h) (λ j _. ne-eqb (later f j) h (λ e. omega arith))
 
 -- no cell outside the week is held
 pub held-late : (m : Meaning) (l c h : ℕ) → 168 ≤ h → is-held m l c h ≡ false

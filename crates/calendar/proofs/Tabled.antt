@@ -15,7 +15,7 @@ use Rattle.std.specs.declared.result.Result.the-variants.{Ok, Err}
 use Rattle.calendar.specs.Week.{any, total, later, covers}
 use Rattle.calendar.specs.Numbers.{answer-number}
 use Rattle.calendar.specs.Meaning.{Meaning, Sound, within, inside, proper, meets, is-held, live-count, room-of, with-run, put, hold-number, after-hold, release-number, after-release, accepted}
-use Rattle.calendar.specs.Rows.{Kept, no-run, starts, row-live, used, tabled, on-cell}
+use Rattle.calendar.specs.Rows.{same-run, Kept, no-run, starts, row-live, used, tabled, on-cell}
 use Rattle.calendar.specs.declared.run.Run.{Run}
 use Rattle.calendar.specs.declared.refusal.PlantRefusal.{PlantRefusal}
 use Rattle.calendar.specs.declared.refusal.PlantRefusal.the-variants.{OutOfRange, CellClosed, CellHeld, NoRoom, NoSuchRun}
@@ -65,7 +65,7 @@ module _ (rows : List Run) (ls cs : ℕ) (k : Kept rows ls cs) where
       (w .0, w .1, q .1, q .0)
 
   pub held-rows : (l c h : ℕ) → is-held (tabled rows ls cs) l c h ≡ any (length rows) (λ i. on-cell (getD rows i no-run) l c h)
-  unfolding is-held tabled on-cell covers
+  unfolding is-held covers
   held-rows l c h =
       bool-same (any 168 (λ f. covers f (row-live rows l c f) h)) (any (length rows) (λ i. on-cell (getD rows i no-run) l c h))
       (λ e.
@@ -91,7 +91,7 @@ module _ (rows : List Run) (ls cs : ℕ) (k : Kept rows ls cs) where
       any-intro 168 (λ f. covers f (row-live rows l c f) h) (r .first) (ins .4) (subst (λ x. covers (r .first) x h ≡ true) (sym (ap (λ x. row-live rows x c (r .first)) el ∙ ap (λ x. row-live rows (r .link) x (r .first)) ec ∙ n)) (a .1)))
 
   pub rows-room : room-of (tabled rows ls cs) ≡ length rows - used rows
-  unfolding room-of tabled
+  unfolding room-of
   rows-room = ap (λ x. length rows - x) (k .counted)
 
 -- another row at i
@@ -118,17 +118,15 @@ used-set rows i r h =
 share-none : (r : Run) (l c f : ℕ) → r .hours ≡ 0 → share r l c f ≡ 0
 share-none r l c f e = cond-both (starts r l c f) (r .hours) 0 (λ x. x ≡ 0) (λ _. e) (λ _. refl)
 
-same-run : (q r : Run) → q .link ≡ r .link → q .channel ≡ r .channel → q .first ≡ r .first → q .hours ≡ r .hours → q ≡ r
-same-run q r a b c d = λ i. record { link = a i; channel = b i; first = c i; hours = d i }
+equal-runs : (q r : Run) → q .link ≡ r .link → q .channel ≡ r .channel → q .first ≡ r .first → q .hours ≡ r .hours → q ≡ r
+equal-runs q r a b c d = λ i. record { link = a i; channel = b i; first = c i; hours = d i }
 
 retable : (rows : List Run) (ls cs n : ℕ) (g : ℕ → ℕ → ℕ → ℕ) → n ≡ length rows → ((l c f : ℕ) → row-live rows l c f ≡ g l c f) → tabled rows ls cs ≡ record { links = ls; channels = cs; limit = n; closed = λ x y h. not (within ls cs x y h); live = g }
-unfolding tabled
 retable rows ls cs n g e h = λ i. record { links = ls; channels = cs; limit = sym e i; closed = λ x y h. not (within ls cs x y h); live = λ l c f. h l c f i }
 
 module _ (rows : List Run) (ls cs : ℕ) (k : Kept rows ls cs) (i : ℕ) (h : i < length rows) (r : Run) (ok : proper (tabled rows ls cs) r ≡ true) where
   module _ (empty : getD rows i no-run .hours ≡ 0) (free : meets (is-held (tabled rows ls cs)) r ≡ false) where
     vacant : row-live rows (r .link) (r .channel) (r .first) ≡ 0
-    unfolding tabled
     vacant = none-there (tabled rows ls cs) (k .sound) r ok free
 
     row-put : (l c f : ℕ) → row-live (set rows i r) l c f ≡ put (row-live rows) (r .link) (r .channel) (r .first) (r .hours) l c f
@@ -150,11 +148,10 @@ module _ (rows : List Run) (ls cs : ℕ) (k : Kept rows ls cs) (i : ℕ) (h : i 
         (cases-bool (starts r l c f))
 
     pub tabled-put : tabled (set rows i r) ls cs ≡ with-run (tabled rows ls cs) r (r .hours)
-    unfolding with-run tabled
+    unfolding with-run
     tabled-put = retable (set rows i r) ls cs (length rows) (put (row-live rows) (r .link) (r .channel) (r .first) (r .hours)) (sym (length-set rows i r)) row-put
 
     pub hold-kept : live-count (tabled rows ls cs) < length rows → Kept (set rows i r) ls cs
-    unfolding tabled
     hold-kept room = record {
       sound = subst Sound (sym tabled-put) (hold-sound (tabled rows ls cs) (k .sound) r ok free room);
       counted = ap live-count tabled-put ∙ counted-put;
@@ -221,11 +218,10 @@ module _ (rows : List Run) (ls cs : ℕ) (k : Kept rows ls cs) (i : ℕ) (h : i 
         (cases-bool (starts r l c f))
 
     pub tabled-cut : tabled (set rows i no-run) ls cs ≡ with-run (tabled rows ls cs) r 0
-    unfolding with-run tabled
+    unfolding with-run
     tabled-cut = retable (set rows i no-run) ls cs (length rows) (put (row-live rows) (r .link) (r .channel) (r .first) 0) (sym (length-set rows i no-run)) row-cut
 
     pub release-kept : Kept (set rows i no-run) ls cs
-    unfolding tabled
     release-kept = record {
       sound = subst Sound (sym tabled-cut) (release-sound (tabled rows ls cs) (k .sound) r ok);
       counted = ap live-count tabled-cut ∙ counted-cut;
@@ -248,7 +244,7 @@ module _ (rows : List Run) (ls cs : ℕ) (k : Kept rows ls cs) (i : ℕ) (h : i 
 
 -- the answers of a timetable
 pub never-closed : (rows : List Run) (ls cs : ℕ) (r : Run) → proper (tabled rows ls cs) r ≡ true → meets (tabled rows ls cs .closed) r ≡ false
-unfolding meets tabled
+unfolding meets
 never-closed rows ls cs r ok =
     let p = inside-parts (tabled rows ls cs) (r .link) (r .channel) (r .first) (proper-parts (tabled rows ls cs) r ok .0) in
     any-false (r .hours) (λ j. not (within ls cs (r .link) (r .channel) (later (r .first) j)))
@@ -290,14 +286,14 @@ module _ (rows : List Run) (ls cs : ℕ) (k : Kept rows ls cs) (r : Run) (ok : p
       put-kept = hold-kept rows ls cs k i h r ok empty free (omega (arith, spare, k .counted))
 
   pub cut-answer : (i : ℕ) → i < length rows → getD rows i no-run ≡ r → record { answer : answer-number (Ok tt) ≡ release-number (tabled rows ls cs) r; after : tabled (set rows i no-run) ls cs ≡ after-release (tabled rows ls cs) r }
-  unfolding release-number after-release tabled
+  unfolding release-number after-release
   cut-answer i h there =
       let z : eqb (row-live rows (r .link) (r .channel) (r .first)) (r .hours) ≡ true = eq-eqb (row-live rows (r .link) (r .channel) (r .first)) (r .hours) (full rows ls cs k i h r ok there) in
       let e : release-number (tabled rows ls cs) r ≡ 0 = rw (ok, z) in
       record { answer = sym e; after = tabled-cut rows ls cs k i h r ok there ∙ (rw e) }
 
   pub lost-answer : ((j : ℕ) → j < length rows → getD rows j no-run ≡ r → ⊥) → record { answer : answer-number (Err NoSuchRun) ≡ release-number (tabled rows ls cs) r; after : tabled rows ls cs ≡ after-release (tabled rows ls cs) r }
-  unfolding release-number after-release tabled
+  unfolding release-number after-release
   lost-answer none =
       let z : eqb (row-live rows (r .link) (r .channel) (r .first)) (r .hours) ≡ false = ne-eqb (row-live rows (r .link) (r .channel) (r .first)) (r .hours) (λ q.
       let w = live-from rows ls cs k (r .link) (r .channel) (r .first) (omega (arith, q, proper-parts (tabled rows ls cs) r ok .1)) in
@@ -305,18 +301,18 @@ module _ (rows : List Run) (ls cs : ℕ) (k : Kept rows ls cs) (r : Run) (ok : p
       let n = live-at rows ls cs k (w .0) (w .1) (w .2) in
       let s = getD rows (w .0) no-run in
       let hrs : s .hours ≡ r .hours = sym n ∙ sym (ap (λ x. row-live rows x (r .channel) (r .first)) (p .0) ∙ ap (λ x. row-live rows (s .link) x (r .first)) (p .1) ∙ ap (row-live rows (s .link) (s .channel)) (p .2)) ∙ q in
-      none (w .0) (w .1) (same-run s r (sym (p .0)) (sym (p .1)) (sym (p .2)) hrs)) in
+      none (w .0) (w .1) (equal-runs s r (sym (p .0)) (sym (p .1)) (sym (p .2)) hrs)) in
       let e : release-number (tabled rows ls cs) r ≡ 25 = rw (ok, z) in
       record { answer = sym e; after = rw e }
 
-pub decides-run : (a b : Run) → Decides (((eqb (a .link) (b .link) && eqb (a .channel) (b .channel)) && eqb (a .first) (b .first)) && eqb (a .hours) (b .hours)) (a ≡ b)
+pub decides-run : (a b : Run) → Decides (same-run a b) (a ≡ b)
 decides-run a b =
     let l = eqb (a .link) (b .link) in
     let c = eqb (a .channel) (b .channel) in
     let f = eqb (a .first) (b .first) in
     let h = eqb (a .hours) (b .hours) in (
       λ e. let x = and-parts ((l && c) && f) h e in let y = and-parts (l && c) f (x .0) in let z = and-parts l c (y .0) in
-          same-run a b (eqb-true (a .link) (b .link) (z .0)) (eqb-true (a .channel) (b .channel) (z .1)) (eqb-true (a .first) (b .first) (y .1)) (eqb-true (a .hours) (b .hours) (x .1)),
+          equal-runs a b (eqb-true (a .link) (b .link) (z .0)) (eqb-true (a .channel) (b .channel) (z .1)) (eqb-true (a .first) (b .first) (y .1)) (eqb-true (a .hours) (b .hours) (x .1)),
       λ e. and-from ((l && c) && f) h (and-from (l && c) f (and-from l c (eq-eqb (a .link) (b .link) (ap (λ x. x .link) e)) (eq-eqb (a .channel) (b .channel) (ap (λ x. x .channel) e))) (eq-eqb (a .first) (b .first) (ap (λ x. x .first) e))) (eq-eqb (a .hours) (b .hours) (ap (λ x. x .hours) e)),
     )
 
@@ -325,7 +321,7 @@ unfolding meets
 meets-rows rows ls cs k r = any-cong (r .hours) (λ j. is-held (tabled rows ls cs) (r .link) (r .channel) (later (r .first) j)) _ (λ j _. held-rows rows ls cs k (r .link) (r .channel) (later (r .first) j))
 
 pub proper-rows : (rows : List Run) (ls cs : ℕ) (r : Run) → proper (tabled rows ls cs) r ≡ (within ls cs (r .link) (r .channel) (r .first) && (leb 1 (r .hours) && leb (r .hours) 168))
-unfolding proper tabled
+unfolding proper
 proper-rows rows ls cs r = refl
 
 pub dead-rows : (rows : List Run) → ((j : ℕ) → j < length rows → getD rows j no-run .hours ≡ 0) → (l c f : ℕ) → row-live rows l c f ≡ 0
@@ -334,7 +330,7 @@ dead-rows rows none l c f = total-zero (length rows) (λ j. share (getD rows j n
 
 -- rows that are all empty
 pub empty-kept : (rows : List Run) (ls cs : ℕ) → 1 ≤ ls → ls ≤ 40 → 1 ≤ cs → cs ≤ 16 → ((j : ℕ) → j < length rows → getD rows j no-run .hours ≡ 0) → Kept rows ls cs
-unfolding tabled used live-count
+unfolding used live-count
 empty-kept rows ls cs a b c d none =
     record {
       sound = record {
@@ -356,3 +352,14 @@ empty-kept rows ls cs a b c d none =
 
       count : total ls (λ l. total cs (λ q. total 168 (λ f. min 1 (row-live rows (suc l) (suc q) f)))) ≡ 0
       count = total-zero ls _ (λ l _. total-zero cs _ (λ q _. total-zero 168 (λ f. min 1 (row-live rows (suc l) (suc q) f)) (λ f _. omega (arith, dead (suc l) (suc q) f))))
+
+-- a row is empty or in use
+pub spare-or-used : (n : ℕ) → cond (eqb n 0) 1 0 + min 1 n ≡ 1
+spare-or-used n =
+    ⊎-elim
+    (λ (e : n ≡ 0). ap (λ b. cond b 1 0 + min 1 n) (eq-eqb n 0 e) ∙ omega (arith, e))
+    (λ e. ap (λ b. cond b 1 0 + min 1 n) (ne-eqb n 0 e) ∙ omega (arith, e))
+    (cases-eq n 0)
+
+pub no-row : (rows : List Run) (r : Run) → ((k : ℕ) → k < length rows → same-run (getD rows k no-run) r ≡ false) → (k : ℕ) → k < length rows → getD rows k no-run ≡ r → ⊥
+no-row rows r none k h e = both-ways (same-run (getD rows k no-run) r) (none k h) (decides-run (getD rows k no-run) r .1 e)

@@ -8,7 +8,7 @@ use Rattle.std.proofs.shelf.Tests.{lt-ltb, le-ltb, cond-true, cond-false}
 use Rattle.std.specs.declared.option.Option.{Option}
 use Rattle.std.specs.declared.option.Option.the-variants.{Some, None}
 use Rattle.calendar.specs.Week.{any, least, later}
-use Rattle.calendar.specs.Meaning.{Meaning, is-held, proper, taken, free-hours, first-taken}
+use Rattle.calendar.specs.Meaning.{Meaning, is-held, proper, taken, hour-at, free-hours, first-taken}
 use Rattle.calendar.specs.declared.run.Run.{Run}
 use Rattle.calendar.proofs.Sums.{any-next, any-done}
 use Rattle.calendar.proofs.Leasts.{least-found, least-missed}
@@ -21,6 +21,10 @@ taken-at m r j = taken m (r .link) (r .channel) (later (r .first) j)
 pub taken-out : (m : Meaning) (r : Run) → proper m r ≡ false → Some (r .first) ≡ first-taken m r
 unfolding first-taken
 taken-out m r e = sym (cond-false (proper m r) _ _ e)
+
+pub taken-in : (m : Meaning) (r : Run) → proper m r ≡ true → hour-at r (free-hours m r) ≡ first-taken m r
+unfolding first-taken
+taken-in m r e = sym (cond-true (proper m r) _ _ e)
 
 pub taken-some : (m : Meaning) (r : Run) (k : ℕ) → proper m r ≡ true → k ≡ free-hours m r → k < r .hours → Some (later (r .first) k) ≡ first-taken m r
 unfolding first-taken
@@ -36,11 +40,6 @@ taken-none m r k e q h =
     sym (cond-true (proper m r) _ _ e ∙ cond-false (ltb (free-hours m r) (r .hours)) _ _ (le-ltb (free-hours m r) (r .hours) z))
 
 -- a loop over the hours of the run
-pub taken-is : (m : Meaning) (r : Run) (j h : ℕ) (a b : Bool) → h ≡ later (r .first) j → a ≡ m .closed (r .link) (r .channel) h → b ≡ is-held m (r .link) (r .channel) h → (a || b) ≡ taken-at m r j
-unfolding taken
-taken-is m r j h a b e p q =
-    ap (λ x. x || b) (p ∙ ap (m .closed (r .link) (r .channel)) e) ∙ ap (λ x. m .closed (r .link) (r .channel) (later (r .first) j) || x) (q ∙ ap (is-held m (r .link) (r .channel)) e)
-
 pub taken-found : (m : Meaning) (r : Run) (i : ℕ) → proper m r ≡ true → i < r .hours → any i (taken-at m r) ≡ false → taken-at m r i ≡ true → Some (later (r .first) i) ≡ first-taken m r
 unfolding free-hours
 taken-found m r i e h none t = taken-some m r i e (sym (least-found (r .hours) (taken-at m r) i h none t)) h

@@ -30,7 +30,7 @@ module _ (ws : List Window) (n : ℕ) (m : Meaning) where
   meets-windowed r = any-or (r .hours) (λ j. m .closed (r .link) (r .channel) (later (r .first) j)) (λ j. shut ws n (r .link) (later (r .first) j))
 
   pub proper-windowed : (r : Run) → proper (windowed ws n m) r ≡ proper m r
-  unfolding proper within windowed
+  unfolding proper windowed
   proper-windowed r = refl
 
   held-windowed : is-held (windowed ws n m) ≡ is-held m
@@ -92,7 +92,7 @@ module _ (ws : List Window) (n : ℕ) (m : Meaning) where
         case false = refl
 
   pub windowed-sound : Sound m → Sound (windowed ws n m)
-  unfolding windowed within live-count
+  unfolding windowed live-count
   windowed-sound s = record {
     some-links = s .some-links;
     few-links = s .few-links;

@@ -15,7 +15,7 @@ unfoldable pub open-plant : ℕ → ℕ → ℕ → Meaning
 open-plant l c n = record { links = l; channels = c; limit = n; closed = λ x y h. not (within l c x y h); live = λ _ _ _. 0 }
 
 -- 1 to 40 links and 1 to 16 channels
-unfoldable pub sizes-fit : ℕ → ℕ → Bool
+abbrev pub sizes-fit : ℕ → ℕ → Bool
 sizes-fit l c = (leb 1 l && leb l 40) && (leb 1 c && leb c 16)
 
 -- at most 4,096 rows

@@ -31,7 +31,7 @@ pub record Meaning : Type 0 where
   pub live : ℕ → ℕ → ℕ → ℕ
 
 -- links and channels are numbered from 1, hours from 0
-unfoldable pub within : ℕ → ℕ → ℕ → ℕ → ℕ → Bool
+abbrev pub within : ℕ → ℕ → ℕ → ℕ → ℕ → Bool
 within ls cs l c h = (leb 1 l && leb l ls) && ((leb 1 c && leb c cs) && ltb h 168)
 
 -- the cell is within the sizes and the week
@@ -102,19 +102,20 @@ unfoldable pub after-release : Meaning → Run → Meaning
 after-release m r = cond (accepted (release-number m r)) (with-run m r 0) m
 
 -- the cell is not free
-unfoldable pub taken : Meaning → ℕ → ℕ → ℕ → Bool
+abbrev pub taken : Meaning → ℕ → ℕ → ℕ → Bool
 taken m l c h = m .closed l c h || is-held m l c h
 
 -- how many hours of the run, from its first on, come before one that is not free
 unfoldable pub free-hours : Meaning → Run → ℕ
 free-hours m r = least (r .hours) (λ j. taken m (r .link) (r .channel) (later (r .first) j))
 
+-- the hour of the run that comes j hours after its first, if it has so many
+abbrev pub hour-at : Run → ℕ → Option ℕ
+hour-at r j = cond (ltb j (r .hours)) (Some (later (r .first) j)) None
+
 -- the first hour of the run that is not free, if any; a run that is out of range is not free from the start
 unfoldable pub first-taken : Meaning → Run → Option ℕ
-first-taken m r =
-    cond (proper m r)
-    (cond (ltb (free-hours m r) (r .hours)) (Some (later (r .first) (free-hours m r))) None)
-    (Some (r .first))
+first-taken m r = cond (proper m r) (hour-at r (free-hours m r)) (Some (r .first))
 
 -- What every plant keeps: its sizes are within the limits, every cell outside them is closed, a live run lies
 -- within them and has at most 168 hours, no two live runs share a cell, and they are no more than the limit.

@@ -23,7 +23,7 @@ row-live rows l c f = total (length rows) (λ i. cond (starts (getD rows i no-ru
 unfoldable pub used : List Run → ℕ
 used rows = total (length rows) (λ i. min 1 (getD rows i no-run .hours))
 
-unfoldable pub tabled : List Run → ℕ → ℕ → Meaning
+abbrev pub tabled : List Run → ℕ → ℕ → Meaning
 tabled rows l c = record { links = l; channels = c; limit = length rows; closed = λ x y h. not (within l c x y h); live = row-live rows }
 
 -- What the rows of a timetable keep.
@@ -33,5 +33,9 @@ pub record Kept (rows : List Run) (l c : ℕ) : Type 0 where
   pub alone : (i j : ℕ) → i < length rows → j < length rows → 0 < getD rows i no-run .hours → 0 < getD rows j no-run .hours → starts (getD rows i no-run) (getD rows j no-run .link) (getD rows j no-run .channel) (getD rows j no-run .first) ≡ true → i ≡ j
 
 -- the run covers the cell
-unfoldable pub on-cell : Run → ℕ → ℕ → ℕ → Bool
+abbrev pub on-cell : Run → ℕ → ℕ → ℕ → Bool
 on-cell r l c h = (eqb l (r .link) && eqb c (r .channel)) && covers (r .first) (r .hours) h
+
+-- the two are the same run
+abbrev pub same-run : Run → Run → Bool
+same-run a b = ((eqb (a .link) (b .link) && eqb (a .channel) (b .channel)) && eqb (a .first) (b .first)) && eqb (a .hours) (b .hours)

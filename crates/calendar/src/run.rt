@@ -1,6 +1,7 @@
 ghost use mathlib.Core.Path.{_≡_};
 ghost use Rattle.calendar.specs.Making.{sizes-fit};
-ghost use Rattle.calendar.specs.Meaning.{fits};
+ghost use Rattle.calendar.specs.Meaning.{within, fits, hour-at};
+use crate::hours::hour_after;
 
 // A run: one channel of one link, from a first hour on for some hours, around the week.
 #[derive(Clone, Copy)]
@@ -26,14 +27,34 @@ pub struct Window {
     pub hours: u8,
 }
 
+impl Size {
+    // Whether a plant of this size has the cell.
+    pub fn has_cell(self, link: u8, channel: u8, hour: u8) -> bool
+        ensures { λ r. ⌜ r ≡ within (self .links) (self .channels) link channel hour ⌝ }
+    {
+        ((1 <= link) & (link <= self.links))
+            & (((1 <= channel) & (channel <= self.channels)) & (hour < 168))
+    }
+}
+
 impl Run {
     // Whether a plant of that size can have the run.
     pub fn fits(self, size: Size) -> bool
         ensures { λ r. ⌜ r ≡ fits (size .links) (size .channels) self ⌝ }
     {
-        let link = (1 <= self.link) & (self.link <= size.links);
-        let channel = (1 <= self.channel) & (self.channel <= size.channels);
-        (link & (channel & (self.first < 168))) & ((1 <= self.hours) & (self.hours <= 168))
+        size.has_cell(self.link, self.channel, self.first)
+            & ((1 <= self.hours) & (self.hours <= 168))
+    }
+
+    // The hour of the run that comes `after` hours after its first, if it has so many.
+    pub fn hour_at(self, after: u8) -> Option<u8>
+        ensures { λ r. ⌜ r ≡ hour-at self after ⌝ }
+    {
+        if after < self.hours {
+            Some(hour_after(self.first, after))
+        } else {
+            None
+        }
     }
 }
 

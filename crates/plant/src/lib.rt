@@ -2,7 +2,7 @@ pub mod timetable;
 
 ghost use mathlib.Core.Path.{_≡_};
 ghost use Rattle.calendar.specs.Numbers.{answer-number};
-ghost use Rattle.calendar.specs.Meaning.{Meaning, Sound, size-of, room-of, is-held, held-count, hold-number, after-hold, release-number, after-release, first-taken};
+ghost use Rattle.calendar.specs.Meaning.{Meaning, Sound, size-of, room-of, is-held, held-count, hold-number, after-hold, release-number, after-release, taken, first-taken};
 use calendar::hours::hour_after;
 use calendar::refusal::PlantRefusal;
 use calendar::run::Run;
@@ -42,6 +42,13 @@ pub trait Plant {
         ensures answer { λ r. ⌜ answer-number r ≡ release-number (meaning (now (self .entry))) run ⌝ }
         ensures after { λ r. ⌜ meaning (now (self .exit)) ≡ after-release (meaning (now (self .entry))) run ⌝ };
 
+    // Whether the cell is closed or held, so that no further run can have it.
+    fn taken(&self, link: u8, channel: u8, hour: u8) -> bool
+        ensures { λ r. ⌜ r ≡ taken (meaning (now (self .entry))) link channel hour ⌝ }
+    {
+        self.closed(link, channel, hour) | self.held(link, channel, hour)
+    }
+
     // The first hour of the run that is closed or held, if any; the run's first hour where the plant cannot have it.
     fn first_taken(&self, run: Run) -> Option<u8>
         ensures { λ r. ⌜ r ≡ first-taken (meaning (now (self .entry))) run ⌝ }
@@ -51,7 +58,7 @@ pub trait Plant {
         }
         for j in 0..run.hours {
             let hour = hour_after(run.first, j);
-            if self.closed(run.link, run.channel, hour) | self.held(run.link, run.channel, hour) {
+            if self.taken(run.link, run.channel, hour) {
                 return Some(hour);
             }
         }

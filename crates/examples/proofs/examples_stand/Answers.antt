@@ -4,4 +4,4 @@ use Rattle.examples.proofs.examples_stand.Needs as need
 
 pub returns : need.returns
 unfolding any total covers shares
-returns c = record { stand = refl; count = refl }
+returns c = record { stand = refl; count = c .example-count .ensures }

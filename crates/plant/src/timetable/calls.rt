@@ -11,6 +11,7 @@ use super::RefusedRows;
 use super::Timetable;
 use super::rows::EMPTY;
 use super::rows::clear_rows;
+use super::rows::put_row;
 use super::rows::row_of;
 use super::rows::rows_free_hours;
 use super::rows::rows_held_count;
@@ -18,7 +19,6 @@ use super::rows::rows_hold;
 use super::rows::spare_row;
 use super::rows::spare_rows;
 use crate::Plant;
-use calendar::hours::hour_after;
 use calendar::refusal::MakingRefusal;
 use calendar::refusal::PlantRefusal;
 use calendar::run::Run;
@@ -91,13 +91,7 @@ pub impl Plant for Timetable as TimetablePlant {
     }
 
     fn closed(&self, link: u8, channel: u8, hour: u8) -> bool {
-        let run = Run {
-            link,
-            channel,
-            first: hour,
-            hours: 1,
-        };
-        !run.fits(self.size())
+        !self.size().has_cell(link, channel, hour)
     }
 
     fn held(&self, link: u8, channel: u8, hour: u8) -> bool {
@@ -118,7 +112,7 @@ pub impl Plant for Timetable as TimetablePlant {
         match spare_row(&self.rows) {
             None => Err(PlantRefusal::NoRoom),
             Some(i) => {
-                self.rows[i] = run;
+                put_row(&mut self.rows, i, run);
                 Ok(())
             }
         }
@@ -131,7 +125,7 @@ pub impl Plant for Timetable as TimetablePlant {
         match row_of(&self.rows, run) {
             None => Err(PlantRefusal::NoSuchRun),
             Some(i) => {
-                self.rows[i] = EMPTY;
+                put_row(&mut self.rows, i, EMPTY);
                 Ok(())
             }
         }
@@ -141,10 +135,6 @@ pub impl Plant for Timetable as TimetablePlant {
         if !run.fits(self.size()) {
             return Some(run.first);
         }
-        let free = self.free_hours(run);
-        if free < run.hours {
-            return Some(hour_after(run.first, free));
-        }
-        None
+        run.hour_at(self.free_hours(run))
     }
 }

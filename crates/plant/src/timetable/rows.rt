@@ -1,13 +1,12 @@
 ghost use Prim.Native.Nat.{ℕ, _≤_, _<_, _-_};
-ghost use mathlib.Core.Bool.{cond};
+ghost use mathlib.Core.Bool.{true, false, cond};
 ghost use mathlib.Core.Path.{_≡_};
 ghost use lib.Dec.{eqb};
-ghost use lib.ListN.{length, getD};
+ghost use lib.ListN.{length, getD, set};
 ghost use Rattle.std.specs.Of.Vec.{vec-len, vec-items};
 ghost use Rattle.std.specs.Options.{Cases as BySome};
-ghost use Rattle.std.specs.Orderings.{Decides};
 ghost use Rattle.calendar.specs.Week.{any, total, least, later};
-ghost use Rattle.calendar.specs.Rows.{no-run, on-cell, used};
+ghost use Rattle.calendar.specs.Rows.{no-run, on-cell, same-run, used};
 use calendar::hours::covers_hour;
 use calendar::hours::hours_until;
 use calendar::run::Run;
@@ -93,6 +92,13 @@ pub(crate) fn spare_row(rows: &[Run]) -> Option<usize>
     None
 }
 
+// 1 for an empty row, 0 for another.
+fn row_spare(row: Run) -> u8
+    ensures { λ r. ⌜ r ≡ cond (eqb (row .hours) 0) 1 0 ⌝ }
+{
+    if row.hours == 0 { 1 } else { 0 }
+}
+
 // How many rows are empty.
 pub(crate) fn spare_rows(rows: &[Run]) -> u32
     requires { ⌜ length (now rows) ≤ 4096 ⌝ }
@@ -100,22 +106,20 @@ pub(crate) fn spare_rows(rows: &[Run]) -> u32
 {
     let mut count: u32 = 0;
     for row in rows {
-        if row.hours == 0 {
-            count += 1;
-        }
+        count += row_spare(*row) as u32;
     }
     count
 }
 
 fn same_run(a: Run, b: Run) -> bool
-    ensures { λ r. ⌜ Decides r (a ≡ b) ⌝ }
+    ensures { λ r. ⌜ r ≡ same-run a b ⌝ }
 {
     (a.link == b.link) & (a.channel == b.channel) & (a.first == b.first) & (a.hours == b.hours)
 }
 
 // The row of exactly this run, if it is live.
 pub(crate) fn row_of(rows: &[Run], run: Run) -> Option<usize>
-    ensures { λ r. ⌜ BySome r ((k : ℕ) → k < length (now (rows .entry)) → getD (now (rows .entry)) k no-run ≡ run → ⊥) (λ i. (i < length (now (rows .entry))) × (getD (now (rows .entry)) i no-run ≡ run)) ⌝ }
+    ensures { λ r. ⌜ BySome r ((k : ℕ) → k < length (now (rows .entry)) → same-run (getD (now (rows .entry)) k no-run) run ≡ false) (λ i. (i < length (now (rows .entry))) × (same-run (getD (now (rows .entry)) i no-run) run ≡ true)) ⌝ }
 {
     for i in 0..rows.len() {
         if same_run(rows[i], run) {
@@ -123,6 +127,15 @@ pub(crate) fn row_of(rows: &[Run], run: Run) -> Option<usize>
         }
     }
     None
+}
+
+// Writes one row.
+pub(crate) fn put_row(rows: &mut Vec<Run>, i: usize, run: Run)
+    requires { ⌜ i < vec-len (now rows) ⌝ }
+    ensures items { λ _. ⌜ vec-items (now (rows .exit)) ≡ set (vec-items (now (rows .entry))) i run ⌝ }
+    ensures len { λ _. ⌜ vec-len (now (rows .exit)) ≡ vec-len (now (rows .entry)) ⌝ }
+{
+    rows[i] = run;
 }
 
 // Empties every row.

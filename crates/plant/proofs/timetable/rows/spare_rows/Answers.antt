@@ -1,21 +1,24 @@
-use Prim.Native.Nat.{ℕ, min}
-use mathlib.Core.Path.{_≡_, ap}
+use Prim.Native.Nat.{ℕ, min, _+_, _≤_}
+use mathlib.Core.Path.{_≡_, ap, _∙_}
+use mathlib.Core.Bool.{cond}
+use mathlib.Core.Logic.{⊎-elim}
 use native.Mathlib.Omega.{arith}
+use lib.Dec.{eqb}
 use lib.ListN.{length, getD}
 use Rattle.calendar.specs.Week.{total}
 use Rattle.calendar.specs.Rows.{no-run, used}
 use Rattle.calendar.proofs.Sums.{total-suc, total-empty}
+use Rattle.calendar.proofs.Tabled.{spare-or-used}
 use Rattle.plant.proofs.timetable.rows.spare_rows.Needs as need
-use Rattle.plant.proofs.timetable.rows.spare_rows.Needs.{then-row-eq0, else-row-eq0}
 
 pub loop-row-holds : need.loop-row-holds
 loop-row-holds c = omega (arith, total-empty (λ k. min 1 (getD (c .args .rows .now) k no-run .hours)))
 
 pub loop-row-again : need.loop-row-again
 loop-row-again c =
-    let e = total-suc (c .loop-row .row-index) (λ k. min 1 (getD (c .args .rows .now) k no-run .hours)) in
-    let v = c .loop-row .inv in
-    elim (c .if-row-eq0 .came) [ then-row-eq0 w ↦ omega (arith, w .count-is, w .if-row-eq0 .taken, e, v) | else-row-eq0 w ↦ omega (arith, w .count-is, w .if-row-eq0 .left, e, v) ]
+    let n : ℕ = getD (c .args .rows .now) (c .loop-row .row-index) no-run .hours in
+    let one : c .row-spare .result ≡ cond (eqb n 0) 1 0 = c .row-spare .ensures in
+    omega (arith, one, spare-or-used n, c .loop-row .inv, total-suc (c .loop-row .row-index) (λ k. min 1 (getD (c .args .rows .now) k no-run .hours)))
 
 pub returns : need.returns
 unfolding used

@@ -1,7 +1,7 @@
-use mathlib.Core.Path.{_≡_}
+use mathlib.Core.Path.{_≡_, sym, ap, subst, _∙_}
 use mathlib.Core.Bool.{true, false}
 use native.Mathlib.Omega.{arith}
-use Rattle.calendar.specs.Meaning.{proper, free-hours, meets, is-held}
+use Rattle.calendar.specs.Rows.{Kept, tabled}
 use Rattle.calendar.proofs.Plants.{refused-hold}
 use Rattle.calendar.proofs.Gaps.{rows-met, rows-clear}
 use Rattle.calendar.proofs.Tabled.{held-answer, full-answer, put-answer, put-kept}
@@ -39,7 +39,8 @@ ghost-self c =
     let ok = tested t r (c .size .result) (c .fits-2 .result) true (c .size .ensures) (c .fits-2 .ensures) (c .if-not-fits .left) in
     let free = rows-clear (t .rows .items) (t .links) (t .channels) r ok (omega (arith, c .free-hours .ensures, c .if-free-hours-run .left)) in
     let w = rw (c .deref .ensures .value) at (c .in-Some .ensures tt) in
-    (t .few, (∣ put-kept (t .rows .items) (t .links) (t .channels) (kept t) r ok free (c .in-Some .i) (w .0) (w .1) ∣₁, tt))
+    let new = put-kept (t .rows .items) (t .links) (t .channels) (kept t) r ok free (c .in-Some .i) (w .0) (w .1) in
+    (omega (arith, t .few, c .put-row .ensures .len), (∣ subst (λ xs. Kept xs (t .links) (t .channels)) (sym (c .put-row .ensures .items)) new ∣₁, tt))
 
 pub returns-in-Some : need.returns-in-Some
 returns-in-Some c =
@@ -48,4 +49,5 @@ returns-in-Some c =
     let ok = tested t r (c .size .result) (c .fits-2 .result) true (c .size .ensures) (c .fits-2 .ensures) (c .if-not-fits .left) in
     let free = rows-clear (t .rows .items) (t .links) (t .channels) r ok (omega (arith, c .free-hours .ensures, c .if-free-hours-run .left)) in
     let w = rw (c .deref .ensures .value) at (c .in-Some .ensures tt) in
-    put-answer (t .rows .items) (t .links) (t .channels) (kept t) r ok free (c .in-Some .i) (w .0) (w .1)
+    let done = put-answer (t .rows .items) (t .links) (t .channels) (kept t) r ok free (c .in-Some .i) (w .0) (w .1) in
+    record { answer = done .answer; after = ap (λ xs. tabled xs (t .links) (t .channels)) (c .put-row .ensures .items) ∙ done .after }

@@ -1,8 +1,10 @@
-use mathlib.Core.Path.{_≡_}
+use mathlib.Core.Path.{_≡_, sym, ap, subst, _∙_}
 use mathlib.Core.Bool.{true, false}
-use Rattle.calendar.specs.Meaning.{proper}
+use native.Mathlib.Omega.{arith}
+use lib.ListN.{getD}
+use Rattle.calendar.specs.Rows.{Kept, no-run, tabled}
 use Rattle.calendar.proofs.Plants.{refused-release}
-use Rattle.calendar.proofs.Tabled.{cut-answer, lost-answer, release-kept}
+use Rattle.calendar.proofs.Tabled.{cut-answer, decides-run, lost-answer, no-row, release-kept}
 use Rattle.plant.specs.Means.{table-means}
 use Rattle.plant.proofs.Tables.{kept, tested}
 use Rattle.plant.proofs.timetable.calls.TimetablePlant.release.Needs as need
@@ -17,7 +19,7 @@ returns-in-None c =
     let t = c .args .self .now in
     let r = c .args .run in
     let ok = tested t r (c .size .result) (c .fits-2 .result) true (c .size .ensures) (c .fits-2 .ensures) (c .if-not-fits .left) in
-    lost-answer (t .rows .items) (t .links) (t .channels) (kept t) r ok (rw (c .deref .ensures .value) at (c .in-None .ensures tt))
+    lost-answer (t .rows .items) (t .links) (t .channels) (kept t) r ok (no-row (t .rows .items) r (rw (c .deref .ensures .value) at (c .in-None .ensures tt)))
 
 pub ghost-self : need.ghost-self
 ghost-self c =
@@ -25,7 +27,9 @@ ghost-self c =
     let r = c .args .run in
     let ok = tested t r (c .size .result) (c .fits-2 .result) true (c .size .ensures) (c .fits-2 .ensures) (c .if-not-fits .left) in
     let w = rw (c .deref .ensures .value) at (c .in-Some .ensures tt) in
-    (t .few, (∣ release-kept (t .rows .items) (t .links) (t .channels) (kept t) (c .in-Some .i) (w .0) r ok (w .1) ∣₁, tt))
+    let there = decides-run (getD (t .rows .items) (c .in-Some .i) no-run) r .0 (w .1) in
+    let new = release-kept (t .rows .items) (t .links) (t .channels) (kept t) (c .in-Some .i) (w .0) r ok there in
+    (omega (arith, t .few, c .put-row .ensures .len), (∣ subst (λ xs. Kept xs (t .links) (t .channels)) (sym (c .put-row .ensures .items)) new ∣₁, tt))
 
 pub returns-in-Some : need.returns-in-Some
 returns-in-Some c =
@@ -33,4 +37,6 @@ returns-in-Some c =
     let r = c .args .run in
     let ok = tested t r (c .size .result) (c .fits-2 .result) true (c .size .ensures) (c .fits-2 .ensures) (c .if-not-fits .left) in
     let w = rw (c .deref .ensures .value) at (c .in-Some .ensures tt) in
-    cut-answer (t .rows .items) (t .links) (t .channels) (kept t) r ok (c .in-Some .i) (w .0) (w .1)
+    let there = decides-run (getD (t .rows .items) (c .in-Some .i) no-run) r .0 (w .1) in
+    let done = cut-answer (t .rows .items) (t .links) (t .channels) (kept t) r ok (c .in-Some .i) (w .0) there in
+    record { answer = done .answer; after = ap (λ xs. tabled xs (t .links) (t .channels)) (c .put-row .ensures .items) ∙ done .after }

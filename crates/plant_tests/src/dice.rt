@@ -1,0 +1,27 @@
+// Numbers for tests: a linear congruential generator, so that each run makes the same calls.
+#[derive(Drop)]
+pub struct Dice {
+    state: u64,
+}
+
+impl Dice {
+    pub fn new(seed: u64) -> Dice {
+        Dice { state: seed }
+    }
+
+    // A number from 0 up to below `sides`; 0 where there are no sides.
+    pub fn roll(&mut self, sides: u64) -> u64 {
+        self.state = self.state
+            .wrapping_mul(6364136223846793005)
+            .wrapping_add(1442695040888963407);
+        if sides == 0 {
+            return 0;
+        }
+        (self.state >> 33) % sides
+    }
+
+    // A number from 0 up to below `sides`, which is at most 256.
+    pub fn small(&mut self, sides: u8) -> u8 {
+        (self.roll(sides as u64) & 0xff) as u8
+    }
+}
