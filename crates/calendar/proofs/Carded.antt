@@ -1,23 +1,21 @@
 -- A card order over a plant.
-use Prim.Native.Nat.{ℕ, zero, suc, _+_, _-_, _≤_, _<_, min}
+use Prim.Native.Nat.{ℕ, suc, _+_, _-_, _≤_, _<_, min}
 use mathlib.Core.Path.{_≡_, refl, sym, ap, fun-ext, _∙_}
-use mathlib.Core.Bool.{Bool, true, false, not, _&&_, _||_, cond}
+use mathlib.Core.Bool.{true, false, not, _&&_, _||_, cond}
 use mathlib.Core.List.{List}
-use mathlib.Core.Logic.{_⊎_, inl, inr, ⊎-elim}
+use mathlib.Core.Logic.{_⊎_, ⊎-elim}
 use native.Mathlib.Omega.{arith}
-use lib.Dec.{eqb, ltb, leb}
+use lib.Dec.{eqb, leb}
 use lib.ListN.{getD}
-use Rattle.std.proofs.shelf.Tests.{cases-bool, cases-eq, cases-lt, both-ways, le-leb, lt-leb, leb-true, and-parts, and-from, and-right, not-false, or-parts, ne-eqb, eq-eqb, cond-true, cond-false, cond-both}
+use Rattle.std.proofs.shelf.Tests.{cases-bool, cases-eq, cases-lt, both-ways, le-leb, leb-true, and-parts, and-from, and-right, not-false, or-parts, ne-eqb, eq-eqb, cond-true, cond-false, cond-both}
 use Rattle.calendar.specs.Week.{any, total, later, covers}
 use Rattle.calendar.specs.Numbers.{answer-number}
 use Rattle.calendar.specs.Meaning.{Meaning, Sound, within, inside, proper, meets, is-held, room-of, live-count, hold-number, after-hold, release-number, after-release, with-run, accepted, put}
 use Rattle.calendar.specs.Layers.{carded, card, named, recarded, Order, disordered}
 use Rattle.calendar.specs.declared.run.Run.{Run}
-use Rattle.calendar.specs.declared.refusal.PlantRefusal.{PlantRefusal}
-use Rattle.calendar.specs.declared.refusal.PlantRefusal.the-variants.{OutOfRange, CellClosed, CellHeld, NoRoom, NoSuchRun}
-use Rattle.std.specs.declared.result.Result.{Result}
-use Rattle.std.specs.declared.result.Result.the-variants.{Ok, Err}
-use Rattle.calendar.proofs.Sums.{bool-same, any-none, any-intro, any-false, any-empty, total-cong, total-split, total-zero}
+use Rattle.calendar.specs.declared.refusal.PlantRefusal.the-variants.{CellClosed, NoSuchRun}
+use Rattle.std.specs.declared.result.Result.the-variants.{Err}
+use Rattle.calendar.proofs.Sums.{any-none, any-intro, any-false, any-empty, total-cong, total-split, total-zero}
 use Rattle.calendar.proofs.Permuted.{permuted}
 use Rattle.calendar.proofs.Clocked.{both}
 use Rattle.calendar.proofs.Plants.{eqb-same, hold-same, release-same, meets-cong, inside-parts, inside-from, proper-parts, after-hold-err, after-release-err}
@@ -139,7 +137,7 @@ module _ (e : List ℕ) (ok : Order e) (m : Meaning) where
   unfolding carded
   proper-named r h = let p = inside-parts (carded e m) (r .link) (r .channel) (r .first) (proper-parts (carded e m) r h .0) in named-from (r .channel) (p .2) (p .3)
 
-  proper-carded : (r : Run) → proper (carded e m) r ≡ true → card e (r .channel) ≤ m .channels → proper m (recarded e r) ≡ true
+  pub proper-carded : (r : Run) → proper (carded e m) r ≡ true → card e (r .channel) ≤ m .channels → proper m (recarded e r) ≡ true
   unfolding carded proper card
   proper-carded r h q =
       let p = proper-parts (carded e m) r h in

@@ -1,14 +1,14 @@
 -- The hours of a run by arithmetic on the circle of the week.
-use Prim.Native.Nat.{ℕ, zero, suc, _+_, _-_, _%_, _≤_, _<_, min}
-use mathlib.Core.Path.{_≡_, refl, sym, ap, subst, _∙_}
-use mathlib.Core.Bool.{Bool, true, false, _&&_, cond}
+use Prim.Native.Nat.{ℕ, _+_, _-_, _%_, _≤_, _<_, min}
+use mathlib.Core.Path.{_≡_, sym, ap, _∙_}
+use mathlib.Core.Bool.{false, _&&_, cond}
 use mathlib.Core.Logic.{⊎-elim}
 use native.Mathlib.Omega.{arith}
-use lib.Dec.{eqb, ltb, leb}
+use lib.Dec.{eqb, ltb}
 use Rattle.std.proofs.shelf.Tests.{cases-eq, cases-lt, lt-ltb, le-ltb, ltb-true, eqb-true, eq-eqb, ne-eqb, cond-true, cond-false}
 use Rattle.calendar.specs.Week.{any, least, later, covers, until}
 use Rattle.calendar.proofs.Sums.{bool-same, any-intro, any-elim, any-empty, any-false}
-use Rattle.calendar.proofs.Leasts.{Least, least-is, least-none, least-short}
+use Rattle.calendar.proofs.Leasts.{least-is, least-none, least-short}
 
 -- an hour of the week is covered where it comes soon enough after the first
 pub covers-near : (f n h : ℕ) → f ≤ 336 → h < 168 → covers f n h ≡ ltb ((h + 336 - f) % 168) n

@@ -1,19 +1,17 @@
 -- A clock over a plant.
-use Prim.Native.Nat.{ℕ, zero, suc, _+_, _-_, _%_, _≤_, _<_, min}
-use mathlib.Core.Path.{_≡_, refl, sym, ap, subst, fun-ext, _∙_}
-use mathlib.Core.Bool.{Bool, true, false, not, _&&_, _||_, cond}
-use mathlib.Core.Logic.{_⊎_, inl, inr, ⊎-elim}
+use Prim.Native.Nat.{ℕ, suc, _-_, _≤_, _<_, min}
+use mathlib.Core.Path.{_≡_, refl, sym, ap, fun-ext, _∙_}
+use mathlib.Core.Bool.{Bool, true, false, _&&_, cond}
+use mathlib.Core.Logic.{_⊎_, ⊎-elim}
 use native.Mathlib.Omega.{arith}
 use lib.Dec.{eqb, ltb, leb}
-use Rattle.std.proofs.shelf.Tests.{cases-bool, cases-lt, both-ways, lt-ltb, le-ltb, ltb-true, ne-eqb, and-right, cond-true, cond-false, cond-both}
-use Rattle.calendar.specs.Week.{any, total, later, covers}
-use Rattle.calendar.specs.Meaning.{Meaning, Sound, within, inside, proper, meets, is-held, room-of, live-count, hold-number, after-hold, release-number, after-release, with-run, accepted, put}
+use Rattle.std.proofs.shelf.Tests.{cases-lt, both-ways, lt-ltb, le-ltb, ne-eqb, and-right, cond-true, cond-false, cond-both}
+use Rattle.calendar.specs.Week.{any, later, covers}
+use Rattle.calendar.specs.Meaning.{Meaning, Sound, inside, proper, is-held, room-of, live-count, hold-number, after-hold, release-number, after-release, with-run, accepted, put}
 use Rattle.calendar.specs.Layers.{clocked, moved}
 use Rattle.calendar.specs.declared.run.Run.{Run}
-use Rattle.calendar.specs.declared.refusal.PlantRefusal.{PlantRefusal}
-use Rattle.std.specs.declared.result.Result.{Result}
-use Rattle.calendar.proofs.Sums.{bool-same, any-intro, any-elim, any-cong, any-false, any-none, total-cong, total-rotate}
-use Rattle.calendar.proofs.Plants.{eqb-same, hold-same, release-same, meets-cong, inside-parts, inside-from, proper-parts}
+use Rattle.calendar.proofs.Sums.{bool-same, any-intro, any-elim, any-cong, total-cong, total-rotate}
+use Rattle.calendar.proofs.Plants.{eqb-same, hold-same, release-same, meets-cong}
 
 pub any-rotate : (o : ℕ) → o < 168 → (p : ℕ → Bool) → any 168 (λ f. p (later f o)) ≡ any 168 p
 any-rotate o h p =

@@ -1,18 +1,18 @@
 -- The held cells of a link are the hours of its live runs.
-use Prim.Native.Nat.{ℕ, zero, suc, _+_, _-_, _%_, _≤_, _<_, min}
-use mathlib.Core.Path.{_≡_, refl, sym, ap, subst, _∙_}
-use mathlib.Core.Bool.{Bool, true, false, _&&_, _||_, cond}
+use Prim.Native.Nat.{ℕ, zero, suc, _-_, _≤_, _<_}
+use mathlib.Core.Path.{_≡_, refl, sym, _∙_}
+use mathlib.Core.Bool.{Bool, true, false, cond}
 use mathlib.Core.List.{List}
-use mathlib.Core.Logic.{_⊎_, inl, inr, ⊎-elim}
+use mathlib.Core.Logic.{_⊎_, ⊎-elim}
 use native.Mathlib.Omega.{arith}
 use lib.Dec.{eqb}
 use lib.ListN.{length, getD}
-use Rattle.std.proofs.shelf.Tests.{cases-bool, cases-eq, cases-lt, both-ways, eqb-true, eq-eqb, ne-eqb, and-left, and-right, cond-true, cond-false}
+use Rattle.std.proofs.shelf.Tests.{cases-bool, cases-eq, cases-lt, eqb-true, eq-eqb, ne-eqb, and-left, and-right, cond-true, cond-false}
 use Rattle.calendar.specs.Week.{any, total, later, covers}
 use Rattle.calendar.specs.Meaning.{Meaning, Sound, is-held, held-count}
 use Rattle.calendar.specs.Rows.{Kept, no-run, starts, row-live, tabled}
 use Rattle.calendar.specs.declared.run.Run.{Run}
-use Rattle.calendar.proofs.Sums.{any-elim, any-none, any-suc, any-empty, total-cong, total-point, total-zero, total-plus}
+use Rattle.calendar.proofs.Sums.{any-elim, total-cong, total-point, total-zero}
 use Rattle.calendar.proofs.Circle.{covers-none}
 use Rattle.calendar.proofs.Permuted.{total-swap}
 use Rattle.calendar.proofs.Plants.{inside-parts}

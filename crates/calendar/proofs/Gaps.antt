@@ -1,13 +1,13 @@
 -- How many hours of a run come before one that a row covers.
-use Prim.Native.Nat.{ℕ, suc, _+_, _%_, _≤_, _<_, min}
-use mathlib.Core.Path.{_≡_, refl, sym, ap, _∙_}
+use Prim.Native.Nat.{ℕ, _+_, _≤_, _<_, min}
+use mathlib.Core.Path.{_≡_, sym, ap, _∙_}
 use mathlib.Core.Bool.{Bool, true, false, _&&_, _||_}
 use mathlib.Core.List.{List}
 use native.Mathlib.Omega.{arith}
 use lib.Dec.{eqb, ltb}
 use lib.ListN.{length, getD}
 use Rattle.calendar.specs.Week.{any, least, later, covers, until}
-use Rattle.calendar.specs.Meaning.{Meaning, is-held, proper, meets, taken, free-hours}
+use Rattle.calendar.specs.Meaning.{Meaning, is-held, proper, meets, free-hours}
 use Rattle.calendar.specs.Rows.{Kept, no-run, on-cell, tabled}
 use Rattle.calendar.specs.declared.run.Run.{Run}
 use Rattle.std.proofs.shelf.Tests.{lt-ltb, le-ltb}

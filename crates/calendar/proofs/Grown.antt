@@ -1,18 +1,18 @@
 -- Holding a free run of n hours raises its link's held count by n.
-use Prim.Native.Nat.{ℕ, zero, suc, _+_, _-_, _%_, _≤_, _<_, min}
+use Prim.Native.Nat.{ℕ, suc, _+_, _-_, _%_, _≤_, _<_}
 use mathlib.Core.Path.{_≡_, refl, sym, ap, subst, _∙_}
-use mathlib.Core.Bool.{Bool, true, false, not, _&&_, _||_, cond}
-use mathlib.Core.Logic.{_⊎_, inl, inr, ⊎-elim}
+use mathlib.Core.Bool.{Bool, true, false, _||_, cond}
+use mathlib.Core.Logic.{_⊎_, ⊎-elim}
 use native.Mathlib.Omega.{arith}
-use lib.Dec.{eqb, ltb, leb}
-use Rattle.std.proofs.shelf.Tests.{cases-bool, cases-eq, cases-lt, both-ways, or-cases, or-left, or-right, lt-ltb, le-ltb, ltb-true, eqb-true, cond-true, cond-false}
+use lib.Dec.{eqb, ltb}
+use Rattle.std.proofs.shelf.Tests.{both-ways, or-cases, or-left, or-right, lt-ltb, le-ltb, eqb-true, cond-true, cond-false}
 use Rattle.calendar.specs.Week.{any, total, later, covers}
 use Rattle.calendar.specs.Meaning.{Meaning, Sound, proper, meets, is-held, held-count, with-run, put}
 use Rattle.calendar.specs.declared.run.Run.{Run}
-use Rattle.calendar.proofs.Sums.{bool-same, any-intro, any-elim, any-none, any-cong, any-empty, total-cong, total-point, total-split, total-rotate, total-ones, total-zero, total-plus}
+use Rattle.calendar.proofs.Sums.{bool-same, any-intro, any-elim, any-none, any-cong, total-cong, total-point, total-split, total-rotate, total-ones, total-zero, total-plus}
 use Rattle.calendar.proofs.Plants.{inside-parts, proper-parts}
 use Rattle.calendar.proofs.Circle.{covers-near, covers-none}
-use Rattle.calendar.proofs.Kept.{put-here, put-link, put-channel, put-cases, none-there}
+use Rattle.calendar.proofs.Kept.{put-here, put-channel, put-cases, none-there}
 
 below-count : (n : ℕ) → n ≤ 168 → total 168 (λ x. cond (ltb x n) 1 0) ≡ n
 below-count n h =

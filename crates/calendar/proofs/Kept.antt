@@ -1,15 +1,15 @@
 -- Holding a free run and releasing a live one keep a plant sound.
-use Prim.Native.Nat.{ℕ, zero, suc, _+_, _-_, _%_, _≤_, _<_, min}
-use mathlib.Core.Path.{_≡_, refl, sym, ap, subst, _∙_}
-use mathlib.Core.Bool.{Bool, true, false, not, _&&_, _||_, cond}
+use Prim.Native.Nat.{ℕ, suc, _+_, _-_, _≤_, _<_, min}
+use mathlib.Core.Path.{_≡_, refl, sym, ap, _∙_}
+use mathlib.Core.Bool.{true, false, _&&_}
 use mathlib.Core.Logic.{_⊎_, inl, inr, ⊎-elim}
 use native.Mathlib.Omega.{arith}
-use lib.Dec.{eqb, ltb, leb}
-use Rattle.std.proofs.shelf.Tests.{cases-bool, cases-eq, cases-lt, both-ways, and-parts, and-from, and-left, and-right, eqb-true, eq-eqb, ne-eqb, cond-true, cond-false, cond-both}
-use Rattle.calendar.specs.Week.{any, total, later, covers}
-use Rattle.calendar.specs.Meaning.{Meaning, Sound, within, inside, proper, meets, is-held, live-count, with-run, put}
+use lib.Dec.{eqb}
+use Rattle.std.proofs.shelf.Tests.{cases-eq, cases-lt, both-ways, and-from, and-left, and-right, eq-eqb, ne-eqb, cond-true, cond-false}
+use Rattle.calendar.specs.Week.{total, later, covers}
+use Rattle.calendar.specs.Meaning.{Meaning, Sound, proper, meets, is-held, live-count, with-run, put}
 use Rattle.calendar.specs.declared.run.Run.{Run}
-use Rattle.calendar.proofs.Sums.{any-intro, any-elim, any-none, total-cong, total-point}
+use Rattle.calendar.proofs.Sums.{any-intro, any-none, total-cong, total-point}
 use Rattle.calendar.proofs.Plants.{inside-parts, proper-parts}
 
 module _ (g : ℕ → ℕ → ℕ → ℕ) (l c f n : ℕ) where

@@ -1,14 +1,13 @@
 -- Laws of `least`.
-use Prim.Native.Nat.{ℕ, zero, suc, _+_, _-_, _%_, _≤_, _<_, min}
+use Prim.Native.Nat.{ℕ, zero, suc, _-_, _≤_, _<_, min}
 use mathlib.Core.Path.{_≡_, refl, sym, ap, subst, _∙_}
-use mathlib.Core.Bool.{Bool, true, false, not, _&&_, _||_, cond}
-use mathlib.Core.Logic.{_⊎_, inl, inr, ⊎-elim}
+use mathlib.Core.Bool.{Bool, true, false, _||_}
+use mathlib.Core.Logic.{_⊎_, ⊎-elim}
 use native.Mathlib.Omega.{arith}
-use native.Mathlib.Numerals.{add-one}
-use lib.Dec.{eqb, ltb, leb}
-use Rattle.std.proofs.shelf.Tests.{cases-bool, cases-eq, cases-lt, both-ways, lt-ltb, le-ltb, ltb-true, ltb-false, or-cases, or-parts, or-left, or-right, cond-true, cond-false}
+use lib.Dec.{ltb}
+use Rattle.std.proofs.shelf.Tests.{cases-bool, cases-eq, cases-lt, both-ways, lt-ltb, le-ltb, ltb-true, or-left, or-right, cond-true, cond-false}
 use Rattle.calendar.specs.Week.{any, least}
-use Rattle.calendar.proofs.Sums.{bool-same, any-intro, any-elim, any-none, any-suc, any-empty}
+use Rattle.calendar.proofs.Sums.{bool-same, any-intro, any-elim, any-none}
 
 -- where one is found below n, where n itself is it, and where there is none up to n
 least-kept : (n : ℕ) (p : ℕ → Bool) → least n p < n → least (suc n) p ≡ least n p

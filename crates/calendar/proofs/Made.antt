@@ -1,15 +1,14 @@
 -- What a making leaves and answers.
-use Prim.Native.Nat.{ℕ, suc, _≤_, _<_, _+_, _*_}
-use mathlib.Core.Path.{_≡_, refl, sym, ap, _∙_}
-use mathlib.Core.Bool.{Bool, true, false, not, _&&_, cond}
+use Prim.Native.Nat.{ℕ, _≤_, _<_, _*_}
+use mathlib.Core.Path.{_≡_}
+use mathlib.Core.Bool.{true, false, not, _&&_}
 use mathlib.Core.List.{List}
-use native.Mathlib.Omega.{arith}
-use lib.Dec.{leb, ltb}
+use lib.Dec.{leb}
 use lib.ListN.{getD, length}
 use borrow.Author.Tests.{leb-true}
 use Rattle.std.proofs.shelf.Tests.{and-parts}
-use Rattle.calendar.specs.Meaning.{Meaning, within}
-use Rattle.calendar.specs.Rows.{Kept, no-run, tabled, row-live}
+use Rattle.calendar.specs.Meaning.{within}
+use Rattle.calendar.specs.Rows.{Kept, no-run, tabled}
 use Rattle.calendar.specs.Making.{open-plant, sizes-fit, table-number, map-number}
 use Rattle.calendar.specs.declared.run.Run.{Run}
 use Rattle.calendar.proofs.Tabled.{dead-rows, empty-kept}

@@ -1,24 +1,20 @@
 -- Two plants that agree on what a call looks at answer alike.
-use Prim.Native.Nat.{ℕ, zero, suc, _+_, _-_, _%_, _≤_, _<_, min}
-use mathlib.Core.Path.{_≡_, refl, sym, ap, subst, _∙_}
-use mathlib.Core.Bool.{Bool, true, false, not, _&&_, _||_, cond}
-use mathlib.Core.Logic.{_⊎_, inl, inr, ⊎-elim}
-use mathlib.Core.List.{List, [], _∷_, _++_}
-use lib.ListN.{length, take, getD}
-use lib.Seq.{take-all}
-use Rattle.std.proofs.shelf.Lists.{take-more}
+use Prim.Native.Nat.{ℕ, _-_, _≤_, _<_}
+use mathlib.Core.Path.{_≡_, sym, ap, _∙_}
+use mathlib.Core.Bool.{Bool, true, false, _&&_}
+use mathlib.Core.Logic.{_⊎_, ⊎-elim}
 use native.Mathlib.Omega.{arith}
 use lib.Dec.{eqb, ltb, leb}
-use Rattle.std.proofs.shelf.Tests.{cases-bool, both-ways, and-parts, and-from, lt-ltb, le-ltb, ltb-true, leb-true, le-leb, eqb-true, eq-eqb, ne-eqb, cond-true, cond-false}
-use Rattle.calendar.specs.Week.{any, total, later, covers}
+use Rattle.std.proofs.shelf.Tests.{cases-bool, and-parts, and-from, lt-ltb, ltb-true, leb-true, le-leb, eqb-true, eq-eqb}
+use Rattle.calendar.specs.Week.{any, later, covers}
 use Rattle.calendar.specs.Numbers.{answer-number}
 use Rattle.calendar.specs.declared.run.Size.{Size}
-use Rattle.calendar.specs.Meaning.{size-of, fits, Meaning, Sound, within, inside, proper, meets, is-held, room-of, live-count, hold-number, after-hold, release-number, after-release, with-run, accepted, put}
+use Rattle.calendar.specs.Meaning.{size-of, fits, Meaning, inside, proper, meets, is-held, room-of, hold-number, after-hold, release-number, after-release, accepted}
 use Rattle.calendar.specs.declared.run.Run.{Run}
-use Rattle.calendar.specs.declared.refusal.PlantRefusal.the-variants.{OutOfRange, CellClosed, CellHeld, NoRoom, NoSuchRun}
-use Rattle.std.specs.declared.result.Result.the-variants.{Ok, Err}
+use Rattle.calendar.specs.declared.refusal.PlantRefusal.the-variants.{OutOfRange}
+use Rattle.std.specs.declared.result.Result.the-variants.{Err}
 use Rattle.calendar.proofs.Circle.{covers-late}
-use Rattle.calendar.proofs.Sums.{bool-same, any-intro, any-elim, any-cong, any-false, any-none}
+use Rattle.calendar.proofs.Sums.{bool-same, any-cong, any-false}
 
 pub eqb-same : (a b c d : ℕ) → (a ≡ b → c ≡ d) → (c ≡ d → a ≡ b) → eqb a b ≡ eqb c d
 eqb-same a b c d f g = bool-same (eqb a b) (eqb c d) (λ e. eq-eqb c d (f (eqb-true a b e))) (λ e. eq-eqb a b (g (eqb-true c d e)))

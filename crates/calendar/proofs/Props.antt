@@ -1,15 +1,12 @@
 -- What a plant keeps has at most one proof.
-use Prim.Native.Nat.{ℕ, _≤_, _<_}
+use Prim.Native.Nat.{ℕ, _≤_}
 use mathlib.Core.Path.{_≡_}
-use mathlib.Core.Bool.{Bool, true, false}
+use mathlib.Core.Bool.{Bool, true}
 use mathlib.Core.List.{List}
 use mathlib.Core.Logic.{∥∥₁-elim}
-use mathlib.Core.HLevel.{Π-prop, →-prop}
 use denote.Struct.Props.{props}
-use lib.ListN.{getD, length}
-use Rattle.calendar.specs.Week.{later}
 use Rattle.calendar.specs.Meaning.{Meaning, Sound, inside, live-count}
-use Rattle.calendar.specs.Rows.{Kept, tabled, used, starts, no-run}
+use Rattle.calendar.specs.Rows.{Kept, tabled, used}
 use Rattle.calendar.specs.declared.run.Run.{Run}
 
 pub le-one : (a b : ℕ) → IsProp (a ≤ b)

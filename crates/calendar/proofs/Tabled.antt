@@ -1,27 +1,25 @@
 -- A timetable's rows.
-use Prim.Native.Nat.{ℕ, zero, suc, _+_, _-_, _%_, _≤_, _<_, min}
-use mathlib.Core.Path.{_≡_, refl, sym, ap, subst, fun-ext, _∙_}
-use mathlib.Core.Bool.{Bool, true, false, not, _&&_, _||_, cond}
+use Prim.Native.Nat.{ℕ, suc, _+_, _-_, _≤_, _<_, min}
+use mathlib.Core.Path.{_≡_, refl, sym, ap, subst, _∙_}
+use mathlib.Core.Bool.{true, false, not, _&&_, cond}
 use mathlib.Core.List.{List}
-use mathlib.Core.Logic.{_⊎_, _≢_, inl, inr, ⊎-elim}
+use mathlib.Core.Logic.{_⊎_, _≢_, ⊎-elim}
 use native.Mathlib.Omega.{arith}
-use lib.Dec.{eqb, ltb, leb}
+use lib.Dec.{eqb, leb}
 use lib.ListN.{getD, length, set, length-set}
 use lib.Seq.{getD-set-same, getD-set-other}
-use Rattle.std.proofs.shelf.Tests.{cases-bool, cases-eq, cases-lt, both-ways, and-parts, and-from, and-left, and-right, eqb-true, eq-eqb, ne-eqb, cond-true, cond-false, cond-both, not-from-true, not-false}
+use Rattle.std.proofs.shelf.Tests.{cases-bool, cases-eq, cases-lt, both-ways, and-parts, and-from, eqb-true, eq-eqb, ne-eqb, cond-true, cond-false, cond-both, not-from-true, not-false}
 use Rattle.std.specs.Orderings.{Decides}
-use Rattle.std.specs.declared.result.Result.{Result}
 use Rattle.std.specs.declared.result.Result.the-variants.{Ok, Err}
 use Rattle.calendar.specs.Week.{any, total, later, covers}
 use Rattle.calendar.specs.Numbers.{answer-number}
-use Rattle.calendar.specs.Meaning.{Meaning, Sound, within, inside, proper, meets, is-held, live-count, room-of, with-run, put, hold-number, after-hold, release-number, after-release, accepted}
+use Rattle.calendar.specs.Meaning.{Meaning, Sound, within, proper, meets, is-held, live-count, room-of, with-run, put, hold-number, after-hold, release-number, after-release}
 use Rattle.calendar.specs.Rows.{same-run, Kept, no-run, starts, row-live, used, tabled, on-cell}
 use Rattle.calendar.specs.declared.run.Run.{Run}
-use Rattle.calendar.specs.declared.refusal.PlantRefusal.{PlantRefusal}
-use Rattle.calendar.specs.declared.refusal.PlantRefusal.the-variants.{OutOfRange, CellClosed, CellHeld, NoRoom, NoSuchRun}
-use Rattle.calendar.proofs.Sums.{bool-same, any-cong, any-intro, any-elim, any-none, any-false, total-cong, total-point, total-zero, total-some, total-ones, total-most}
+use Rattle.calendar.specs.declared.refusal.PlantRefusal.the-variants.{CellHeld, NoRoom, NoSuchRun}
+use Rattle.calendar.proofs.Sums.{bool-same, any-cong, any-intro, any-elim, any-false, total-point, total-zero, total-some, total-ones, total-most}
 use Rattle.calendar.proofs.Plants.{inside-parts, inside-from, proper-parts}
-use Rattle.calendar.proofs.Kept.{put-here, put-cases, count-at, none-there, hold-sound, release-sound}
+use Rattle.calendar.proofs.Kept.{count-at, none-there, hold-sound, release-sound}
 
 pub starts-parts : (r : Run) (l c f : ℕ) → starts r l c f ≡ true → (l ≡ r .link) × (c ≡ r .channel) × (f ≡ r .first)
 unfolding starts

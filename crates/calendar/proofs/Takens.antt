@@ -1,16 +1,15 @@
 -- The first hour of a run that is not free.
-use Prim.Native.Nat.{ℕ, suc, _+_, _%_, _≤_, _<_}
-use mathlib.Core.Path.{_≡_, refl, sym, ap, _∙_}
-use mathlib.Core.Bool.{Bool, true, false, _||_, cond}
+use Prim.Native.Nat.{ℕ, _≤_, _<_}
+use mathlib.Core.Path.{_≡_, sym, ap, _∙_}
+use mathlib.Core.Bool.{Bool, true, false}
 use native.Mathlib.Omega.{arith}
 use lib.Dec.{ltb}
 use Rattle.std.proofs.shelf.Tests.{lt-ltb, le-ltb, cond-true, cond-false}
-use Rattle.std.specs.declared.option.Option.{Option}
 use Rattle.std.specs.declared.option.Option.the-variants.{Some, None}
-use Rattle.calendar.specs.Week.{any, least, later}
-use Rattle.calendar.specs.Meaning.{Meaning, is-held, proper, taken, hour-at, free-hours, first-taken}
+use Rattle.calendar.specs.Week.{any, later}
+use Rattle.calendar.specs.Meaning.{Meaning, proper, taken, hour-at, free-hours, first-taken}
 use Rattle.calendar.specs.declared.run.Run.{Run}
-use Rattle.calendar.proofs.Sums.{any-next, any-done}
+use Rattle.calendar.proofs.Sums.{any-done}
 use Rattle.calendar.proofs.Leasts.{least-found, least-missed}
 
 -- the run's hour j is not free

@@ -1,24 +1,19 @@
 -- Windows over a plant.
-use Prim.Native.Nat.{ℕ, zero, suc, _+_, _-_, _%_, _≤_, _<_, min}
-use mathlib.Core.Path.{_≡_, refl, sym, ap, subst, fun-ext, _∙_}
-use mathlib.Core.Bool.{Bool, true, false, not, _&&_, _||_, cond}
+use Prim.Native.Nat.{ℕ, _-_}
+use mathlib.Core.Path.{_≡_, refl, sym, ap, _∙_}
+use mathlib.Core.Bool.{Bool, true, false, _&&_, _||_, cond}
 use mathlib.Core.List.{List}
-use mathlib.Core.Logic.{_⊎_, inl, inr, ⊎-elim}
-use native.Mathlib.Omega.{arith}
-use lib.Dec.{eqb, ltb, leb}
-use Rattle.std.proofs.shelf.Tests.{cases-bool, cases-lt, both-ways, lt-ltb, le-ltb, ltb-true, eqb-true, eq-eqb, or-parts, cond-true, cond-false, cond-both}
-use Rattle.std.specs.declared.result.Result.{Result}
-use Rattle.std.specs.declared.result.Result.the-variants.{Ok, Err}
-use Rattle.calendar.specs.Week.{any, total, later, covers}
+use Rattle.std.proofs.shelf.Tests.{both-ways, or-parts}
+use Rattle.std.specs.declared.result.Result.the-variants.{Err}
+use Rattle.calendar.specs.Week.{later}
 use Rattle.calendar.specs.Numbers.{answer-number}
-use Rattle.calendar.specs.Meaning.{Meaning, Sound, within, inside, proper, meets, is-held, room-of, live-count, hold-number, after-hold, release-number, after-release, with-run, accepted, put}
-use Rattle.calendar.specs.Layers.{windowed, shut, shuts}
+use Rattle.calendar.specs.Meaning.{Meaning, Sound, proper, meets, is-held, room-of, live-count, hold-number, after-hold, release-number, after-release, with-run, accepted}
+use Rattle.calendar.specs.Layers.{windowed, shut}
 use Rattle.calendar.specs.declared.run.Run.{Run}
 use Rattle.calendar.specs.declared.run.Window.{Window}
-use Rattle.calendar.specs.declared.refusal.PlantRefusal.{PlantRefusal}
-use Rattle.calendar.specs.declared.refusal.PlantRefusal.the-variants.{OutOfRange, CellClosed, CellHeld, NoRoom, NoSuchRun}
-use Rattle.calendar.proofs.Sums.{bool-same, any-intro, any-elim, any-or, any-cong}
-use Rattle.calendar.proofs.Plants.{hold-same, release-same, meets-cong}
+use Rattle.calendar.specs.declared.refusal.PlantRefusal.the-variants.{CellClosed}
+use Rattle.calendar.proofs.Sums.{any-or}
+use Rattle.calendar.proofs.Plants.{release-same}
 
 module _ (ws : List Window) (n : ℕ) (m : Meaning) where
   -- some cell of the run is in a window

@@ -3,7 +3,7 @@ use Prim.Native.Nat.{ℕ, _<_, _≤_, _-_}
 use mathlib.Core.Path.{_≡_}
 use mathlib.Core.List.{List}
 use lib.ListN.{getD}
-use mathlib.Core.Bool.{Bool, true, false, not, _||_, _&&_, cond}
+use mathlib.Core.Bool.{Bool, true, not, _||_, _&&_, cond}
 use lib.Dec.{eqb, ltb, leb}
 use Rattle.calendar.specs.Week.{any, later, covers}
 use Rattle.calendar.specs.Meaning.{Meaning}

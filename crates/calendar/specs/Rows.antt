@@ -1,9 +1,9 @@
 -- What a timetable's rows mean. A row of no hours is empty.
-use Prim.Native.Nat.{ℕ, _≤_, _<_, min}
+use Prim.Native.Nat.{ℕ, _<_, min}
 use mathlib.Core.Path.{_≡_}
 use mathlib.Core.List.{List}
-use mathlib.Core.Bool.{Bool, true, false, not, _&&_, cond}
-use lib.Dec.{eqb, ltb, leb}
+use mathlib.Core.Bool.{Bool, true, not, _&&_, cond}
+use lib.Dec.{eqb}
 use lib.ListN.{getD, length}
 use Rattle.calendar.specs.Week.{total, covers}
 use Rattle.calendar.specs.Meaning.{Meaning, Sound, live-count, within}

@@ -7,8 +7,8 @@
 --   any n p          p holds of some k below n
 --   total n f        f 0 + .. + f (n - 1)
 --   least n p        the least k below n of which p holds; n where there is none
-use Prim.Native.Nat.{ℕ, zero, suc, _+_, _-_, _%_}
-use mathlib.Core.Bool.{Bool, true, false, _||_, _&&_, cond}
+use Prim.Native.Nat.{ℕ, zero, suc, _+_, _%_}
+use mathlib.Core.Bool.{Bool, false, _||_, _&&_, cond}
 use lib.Dec.{eqb, ltb}
 
 -- p holds of some k below n

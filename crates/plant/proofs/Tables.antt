@@ -1,9 +1,8 @@
 -- A timetable's rows are kept, and what a test of a run against its size tells.
-use Prim.Native.Nat.{ℕ}
 use mathlib.Core.Path.{_≡_, sym, _∙_}
 use mathlib.Core.Bool.{Bool}
 use Rattle.calendar.specs.Meaning.{proper, fits, size-of}
-use Rattle.calendar.specs.Rows.{Kept, tabled}
+use Rattle.calendar.specs.Rows.{Kept}
 use Rattle.calendar.specs.declared.run.Run.{Run}
 use Rattle.calendar.specs.declared.run.Size.{Size}
 use Rattle.calendar.proofs.Plants.{proper-size}

@@ -1,8 +1,6 @@
-use mathlib.Core.Path.{_≡_, refl, sym, _∙_}
-use mathlib.Core.Bool.{true, false}
+use mathlib.Core.Path.{refl, sym, _∙_}
 use native.Mathlib.Omega.{arith}
 use Rattle.std.proofs.shelf.Tests.{le-leb, lt-leb}
-use Rattle.calendar.specs.Making.{sizes-fit}
 use Rattle.calendar.proofs.Made.{sizes-parts, fit-kept, table-sizes, table-memory, table-made, empty-open}
 use Rattle.plant.proofs.timetable.Timetable.new.Needs as need
 

@@ -1,5 +1,3 @@
-use Prim.Native.Nat.{ℕ}
-use mathlib.Core.Bool.{Bool}
 use lib.ListN.{length, getD}
 use Rattle.calendar.specs.Rows.{no-run, on-cell}
 use Rattle.calendar.proofs.Sums.{any-empty, any-next, any-found, any-done}

@@ -1,4 +1,4 @@
-use mathlib.Core.Path.{ap, sym, _∙_}
+use mathlib.Core.Path.{ap, _∙_}
 use mathlib.Core.Bool.{true, false}
 use Rattle.calendar.specs.Meaning.{hour-at}
 use Rattle.calendar.proofs.Takens.{taken-out, taken-in}

@@ -1,0 +1,9 @@
+use mathlib.Core.Path.{ap, _∙_}
+use mathlib.Core.Bool.{not}
+use Rattle.hour_bits.specs.Tables.{mapped}
+use Rattle.hour_bits.proofs.Calls.{cell-fits}
+use Rattle.bitmap.proofs.map.Map.cell_closed.Needs as need
+
+pub returns : need.returns
+unfolding mapped
+returns c = let m = c .args .self .now in ap not (c .fits-2 .ensures ∙ cell-fits (m .links) (m .channels) (c .args .link) (c .args .channel) (c .args .hour))

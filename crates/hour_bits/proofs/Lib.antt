@@ -1,0 +1,14 @@
+pub mod Circle
+pub mod Words
+pub mod Rows
+pub mod Ones
+pub mod Runs
+pub mod Hold
+pub mod Release
+pub mod Tables
+pub mod Places
+pub mod Mapped
+pub mod Keeping
+pub mod Calls
+pub mod Firsts
+pub mod Counts
