@@ -2,7 +2,7 @@ ghost use Rattle.std.specs.Of.Vec.{vec-items};
 ghost use Rattle.hour_bits.specs.Tables.{Kept};
 use calendar::refusal::MakingRefusal;
 
-pub mod calls;
+mod calls;
 pub mod plant;
 mod questions;
 

@@ -8,29 +8,34 @@ use native.Mathlib.Omega.{arith}
 use lib.Dec.{eqb, ltb, leb}
 use lib.ListN.{length}
 use Rattle.std.proofs.shelf.Bits.{mul-le}
-use Rattle.std.proofs.shelf.Tests.{and-parts, and-left, cond-true, eqb-true, leb-true, ne-eqb, not-from-true}
+use Rattle.std.proofs.shelf.Tests.{and-parts, and-left, cond-true, eq-eqb, leb-true, ne-eqb, not-from-true}
+use Rattle.std.specs.declared.option.Option.{Option}
 use Rattle.std.specs.declared.option.Option.the-variants.{Some, None}
-use Rattle.std.specs.declared.result.Result.the-variants.{Err}
 use Rattle.calendar.specs.Week.{any, least, later}
-use Rattle.calendar.specs.Numbers.{answer-number}
-use Rattle.calendar.specs.Meaning.{within, fits, proper, meets, is-held, live-count, room-of, with-run, hold-number, after-hold, release-number, after-release, taken, free-hours, first-taken}
-use Rattle.calendar.specs.declared.refusal.PlantRefusal.the-variants.{CellHeld, NoSuchRun}
+use Rattle.calendar.specs.Meaning.{size-of, within, fits, proper, meets, is-held, live-count, room-of, with-run, hold-number, after-hold, release-number, after-release, taken, free-hours, first-taken}
 use Rattle.calendar.specs.declared.run.Run.{Run}
+use Rattle.calendar.specs.declared.run.Size.{Size}
 use Rattle.calendar.proofs.Kept.{count-at, none-there}
+use Rattle.calendar.proofs.Plants.{proper-size, refused-hold, refused-release}
 use Rattle.calendar.proofs.Leasts.{least-cong}
 use Rattle.calendar.proofs.Sums.{any-cong, any-false}
 use Rattle.hour_bits.specs.Bits.{row, hours-of, first-set, more-hours, fewer-hours, Marked, Unmarked}
 use Rattle.hour_bits.specs.Tables.{mapped, base-of, held-in, start-in, words-mean, Kept, Placed, Spare}
 use Rattle.hour_bits.proofs.Circle.{free-from}
 use Rattle.hour_bits.proofs.Runs.{Run-at, run-there, hours-some}
-use Rattle.hour_bits.proofs.Tables.{Within, within-parts, within-from, Sounds, live-hours, hold-means, hold-sounds, release-means, release-sounds}
+use Rattle.hour_bits.proofs.Tables.{Within, within-parts, within-from, live-hours, hold-means, hold-sounds, release-means, release-sounds}
 use Rattle.hour_bits.proofs.Places.{row-fits, held-changed, start-changed, past-rows}
 use Rattle.hour_bits.proofs.Mapped.{count-bound, mapped-held}
+use Rattle.hour_bits.proofs.Firsts.{set-missed}
 use Rattle.hour_bits.proofs.Keeping.{kept-sounds, kept-sound}
 
 pub words-proper : (ws : List ℕ) (L C : ℕ) (r : Run) → proper (words-mean ws L C) r ≡ fits L C r
 unfolding proper mapped
 words-proper ws L C r = refl
+
+-- a run that fits the size that the words tell
+pub words-fit : (ws : List ℕ) (L C : ℕ) (r : Run) (s : Size) → s ≡ size-of (words-mean ws L C) → fits L C r ≡ fits (s .links) (s .channels) r
+words-fit ws L C r s e = sym (proper-size (words-mean ws L C) r s e ∙ words-proper ws L C r)
 
 pub fits-parts : (L C : ℕ) (r : Run) → fits L C r ≡ true → Within L C (r .link) (r .channel) × (r .first < 168) × (1 ≤ r .hours) × (r .hours ≤ 168)
 fits-parts L C r e =
@@ -96,24 +101,28 @@ module _ (ws : List ℕ) (L C : ℕ) (k : Kept ws L C) where
     fitting = words-proper ws L C r ∙ at .fit
 
     -- the first hour that is not free is the first with its held bit set
-    pub first-words : first-set (row ws b) (r .first) (r .hours) ≡ first-taken (words-mean ws L C) r
-    unfolding first-set first-taken free-hours mapped
+    first-words : first-set (row ws b) (r .first) (r .hours) ≡ first-taken (words-mean ws L C) r
+    unfolding first-taken free-hours mapped
     first-words =
         let T : ℕ → Bool = λ j. taken (words-mean ws L C) (r .link) (r .channel) (later (r .first) j) in
         let R : ℕ → Bool = λ j. row ws b (later (r .first) j) in
         let e : least (r .hours) T ≡ least (r .hours) R = least-cong (r .hours) T R (λ j _. open-taken (within L C (r .link) (r .channel) (later (r .first) j)) _ _ (within-from L C (r .link) (r .channel) (later (r .first) j) sized (omega arith)) (run-held j)) in
         ap (λ x. cond (ltb x (r .hours)) (Some (later (r .first) x)) None) (sym e) ∙ sym (cond-true (proper (words-mean ws L C) r) _ _ fitting)
 
+    pub first-is : (xs : List ℕ) (o : Option ℕ) → o ≡ first-set (row xs b) (r .first) (r .hours) → xs ≡ ws → o ≡ first-taken (words-mean ws L C) r
+    first-is xs o e q = subst (λ x. o ≡ first-set (row x b) (r .first) (r .hours)) q e ∙ first-words
+
+    pub first-none : any (r .hours) (λ j. row ws b (later (r .first) j)) ≡ false → None ≡ first-taken (words-mean ws L C) r
+    first-none e = set-missed (row ws b) (r .first) (r .hours) e ∙ first-words
+
     pub hold-taken : any (r .hours) (λ j. row ws b (later (r .first) j)) ≡ true
-        → record { answer : answer-number (Err CellHeld) ≡ hold-number (words-mean ws L C) r; after : words-mean ws L C ≡ after-hold (words-mean ws L C) r }
+        → (hold-number (words-mean ws L C) r ≡ 23) × (after-hold (words-mean ws L C) r ≡ words-mean ws L C)
     unfolding hold-number after-hold
-    hold-taken e =
-        let a : hold-number (words-mean ws L C) r ≡ 23 = rw (fitting, open-cells, held-cells ∙ e) in
-        record { answer = sym a; after = rw a }
+    hold-taken e = let a : hold-number (words-mean ws L C) r ≡ 23 = rw (fitting, open-cells, held-cells ∙ e) in (a, rw a)
 
     module _ (free : any (r .hours) (λ j. row ws b (later (r .first) j)) ≡ false) where
       -- a plant with a free cell has room
-      pub room-left : eqb (room-of (words-mean ws L C)) 0 ≡ false
+      room-left : eqb (room-of (words-mean ws L C)) 0 ≡ false
       unfolding room-of with-run mapped
       room-left =
           let m = words-mean ws L C in
@@ -161,23 +170,20 @@ module _ (ws : List ℕ) (L C : ℕ) (k : Kept ws L C) where
     live-bits = live-hours L C (held-in ws C) (start-in ws C) (r .link) (r .channel) (r .first) sized (at .first) ∙ ap (λ x. hours-of (row ws x) (row ws (x + 3)) (r .first)) (sym (at .base))
 
     pub release-lost : eqb (hours-of (row ws b) (row ws (b + 3)) (r .first)) (r .hours) ≡ false
-        → record { answer : answer-number (Err NoSuchRun) ≡ release-number (words-mean ws L C) r; after : words-mean ws L C ≡ after-release (words-mean ws L C) r }
+        → (release-number (words-mean ws L C) r ≡ 25) × (after-release (words-mean ws L C) r ≡ words-mean ws L C)
     unfolding release-number after-release
-    release-lost e =
-        let a : release-number (words-mean ws L C) r ≡ 25 = rw (fitting, live-bits, e) in
-        record { answer = sym a; after = rw a }
+    release-lost e = let a : release-number (words-mean ws L C) r ≡ 25 = rw (fitting, live-bits, e) in (a, rw a)
 
-    module _ (live : eqb (hours-of (row ws b) (row ws (b + 3)) (r .first)) (r .hours) ≡ true) where
+    module _ (live : hours-of (row ws b) (row ws (b + 3)) (r .first) ≡ r .hours) where
       release-answer : release-number (words-mean ws L C) r ≡ 0
       unfolding release-number
-      release-answer = rw (fitting, live-bits, live)
+      release-answer = rw (fitting, live-bits, eq-eqb (hours-of (row ws b) (row ws (b + 3)) (r .first)) (r .hours) live)
 
       there : Run-at (held-in ws C (r .link) (r .channel)) (start-in ws C (r .link) (r .channel)) (r .first) (r .hours)
       there =
           let some = at .some in
-          let e = eqb-true (hours-of (row ws b) (row ws (b + 3)) (r .first)) (r .hours) live in
           subst (λ x. Run-at (row ws x) (row ws (x + 3)) (r .first) (r .hours)) (at .base)
-          (subst (Run-at (row ws b) (row ws (b + 3)) (r .first)) e (run-there (row ws b) (row ws (b + 3)) (r .first) (at .first) (hours-some (row ws b) (row ws (b + 3)) (r .first) (omega arith))))
+          (subst (Run-at (row ws b) (row ws (b + 3)) (r .first)) live (run-there (row ws b) (row ws (b + 3)) (r .first) (at .first) (hours-some (row ws b) (row ws (b + 3)) (r .first) (omega arith))))
 
       pub release-done : (w : List ℕ) → length w ≡ length ws → Unmarked ws w b (r .first) (r .hours)
           → record { kept : Kept w L C; answer : 0 ≡ release-number (words-mean ws L C) r; after : words-mean w L C ≡ after-release (words-mean ws L C) r; spare : Spare ws w (L * C * 6) }
@@ -204,6 +210,9 @@ module _ (ws : List ℕ) (L C : ℕ) (k : Kept ws L C) where
             spare = record { many = same; same = past-rows L C ws (d .between) w l c sized _ _ (d .held) (d .start) };
           }
 
--- a call that refuses leaves every word
-pub untouched : (ws : List ℕ) (n : ℕ) → Spare ws ws n
-untouched ws n = record { many = refl; same = λ _ _. refl }
+-- a run that the plant cannot have
+pub hold-out : (ws : List ℕ) (L C : ℕ) (r : Run) → fits L C r ≡ false → (hold-number (words-mean ws L C) r ≡ 21) × (after-hold (words-mean ws L C) r ≡ words-mean ws L C)
+hold-out ws L C r e = let o = refused-hold (words-mean ws L C) r (words-proper ws L C r ∙ e) in (sym (o .answer), sym (o .after))
+
+pub release-out : (ws : List ℕ) (L C : ℕ) (r : Run) → fits L C r ≡ false → (release-number (words-mean ws L C) r ≡ 21) × (after-release (words-mean ws L C) r ≡ words-mean ws L C)
+release-out ws L C r e = let o = refused-release (words-mean ws L C) r (words-proper ws L C r ∙ e) in (sym (o .answer), sym (o .after))

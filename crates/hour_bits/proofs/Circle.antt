@@ -1,10 +1,10 @@
 -- The hours of a run, by how far they lie ahead of its first.
 use Prim.Native.Nat.{ℕ, _+_, _-_, _%_, _≤_, _<_}
-use mathlib.Core.Path.{_≡_, sym, ap, _∙_}
+use mathlib.Core.Path.{_≡_, ap, _∙_}
 use mathlib.Core.Bool.{Bool, true, false, not}
 use native.Mathlib.Omega.{arith}
 use lib.Dec.{ltb, eqb}
-use Rattle.std.proofs.shelf.Tests.{lt-ltb, not-false, not-from-true}
+use Rattle.std.proofs.shelf.Tests.{not-false, not-from-true}
 use Rattle.std.proofs.shelf.Ways.{tells}
 use Rattle.calendar.specs.Week.{any, later, covers}
 use Rattle.calendar.proofs.Circle.{covers-near}

@@ -1,7 +1,6 @@
 -- Room and held cells of a map, as counts of the bits of its rows.
-use Prim.Native.Nat.{ℕ, zero, suc, _+_, _-_, _*_, _<_, _≤_}
-use mathlib.Core.Path.{_≡_, refl, sym, ap, _∙_}
-use mathlib.Core.Bool.{Bool, true, false}
+use Prim.Native.Nat.{ℕ, zero, suc, _+_, _-_, _*_, _≤_}
+use mathlib.Core.Path.{_≡_, sym, ap, _∙_}
 use mathlib.Core.List.{List}
 use native.Mathlib.Nat.{suc-mul, zero-mul}
 use native.Mathlib.Omega.{arith}
@@ -21,7 +20,7 @@ total-rows zero C g = ap (λ n. total n g) (zero-mul C)
 total-rows (suc L) C g = omega (arith, ap (λ n. total n g) (suc-mul L C), total-split (L * C) C g, total-rows L C g)
 
 module _ (ws : List ℕ) (L C : ℕ) (k : Kept ws L C) where
-  pub live-words : live-count (words-mean ws L C) ≡ total (L * C) (λ i. bit-count (row ws (3 + i * 6)))
+  live-words : live-count (words-mean ws L C) ≡ total (L * C) (λ i. bit-count (row ws (3 + i * 6)))
   live-words =
       mapped-live L C (held-in ws C) (start-in ws C) (kept-sounds ws L C k)
       ∙ total-cong L _ _ (λ l _. total-cong C _ _ (λ c _.

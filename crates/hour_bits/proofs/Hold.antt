@@ -1,10 +1,9 @@
 -- A run put into the free hours of a sound row is added to its runs, and nothing else changes.
-use Prim.Native.Nat.{ℕ, _+_, _-_, _%_, _<_, _≤_}
+use Prim.Native.Nat.{ℕ, _+_, _%_, _<_, _≤_}
 use mathlib.Core.Path.{_≡_, refl, sym, ap, _∙_}
-use mathlib.Core.Bool.{Bool, true, false, _&&_, _||_, not}
+use mathlib.Core.Bool.{Bool, true, false, _||_, not}
 use mathlib.Core.Logic.{⊎-elim}
 use native.Mathlib.Omega.{arith}
-use lib.Dec.{eqb, ltb}
 use Rattle.std.proofs.shelf.Tests.{both-ways, cases-lt, cases-eq, cases-bool, lt-ltb, le-ltb, eq-eqb, ne-eqb, or-left, or-right, and-right, not-from-true, not-from-false}
 use Rattle.calendar.proofs.Sums.{any-intro}
 use Rattle.hour_bits.specs.Bits.{goes-on, hours-of, Sound-row, more-hours}

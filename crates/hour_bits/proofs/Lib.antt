@@ -2,6 +2,7 @@ pub mod Circle
 pub mod Words
 pub mod Rows
 pub mod Ones
+pub mod Firsts
 pub mod Runs
 pub mod Hold
 pub mod Release
@@ -9,6 +10,5 @@ pub mod Tables
 pub mod Places
 pub mod Mapped
 pub mod Keeping
-pub mod Calls
-pub mod Firsts
 pub mod Counts
+pub mod Calls

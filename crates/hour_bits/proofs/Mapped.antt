@@ -1,19 +1,15 @@
 -- What sound tables of bits mean is a sound plant; its held cells are the held bits, its live runs the start bits.
-use Prim.Native.Nat.{ℕ, zero, suc, _+_, _-_, _*_, _%_, _<_, _≤_, min}
-use mathlib.Core.Path.{_≡_, refl, sym, ap, subst, _∙_}
-use mathlib.Core.Bool.{Bool, true, false, _&&_, not, cond}
+use Prim.Native.Nat.{ℕ, zero, suc, _*_, _<_, _≤_, min}
+use mathlib.Core.Path.{_≡_, sym, ap, _∙_}
+use mathlib.Core.Bool.{Bool, true, false, _&&_, cond}
 use mathlib.Core.Logic.{⊎-elim}
 use native.Mathlib.Nat.{suc-mul, mul-assoc}
 use native.Mathlib.Omega.{arith}
-use lib.Dec.{eqb, ltb}
-use Rattle.std.proofs.shelf.Tests.{both-ways, cases-lt, cases-eq, cases-bool, lt-ltb, ltb-true, and-from, and-parts, and-left, not-false, not-from-true, cond-true, cond-false, cond-both, ne-eqb}
+use Rattle.std.proofs.shelf.Tests.{both-ways, cases-lt, cases-eq, cases-bool, lt-ltb, ltb-true, and-from, and-parts, and-left, not-false, cond-true, cond-false}
 use Rattle.calendar.specs.Week.{any, total, later, covers}
-use Rattle.calendar.specs.Meaning.{Meaning, Sound, within, fits, proper, meets, is-held, live-count, held-count, room-of, with-run, first-taken, taken}
-use Rattle.calendar.specs.declared.run.Run.{Run}
+use Rattle.calendar.specs.Meaning.{Meaning, Sound, within, is-held, live-count, held-count}
 use Rattle.calendar.proofs.Circle.{covers-late}
-use Rattle.calendar.proofs.Plants.{proper-parts}
-use Rattle.calendar.proofs.Kept.{count-at}
-use Rattle.calendar.proofs.Sums.{bool-same, any-intro, any-elim, any-false, total-cong, total-zero}
+use Rattle.calendar.proofs.Sums.{bool-same, any-intro, any-elim, total-cong, total-zero}
 use Rattle.hour_bits.specs.Bits.{hours-of, bit-count}
 use Rattle.hour_bits.specs.Tables.{Table, mapped}
 use Rattle.hour_bits.proofs.Circle.{ahead, covers-ahead}

@@ -4,7 +4,6 @@ use mathlib.Core.Path.{_≡_, refl, sym, ap, _∙_}
 use mathlib.Core.Bool.{Bool, true, false, _&&_, not}
 use mathlib.Core.Logic.{⊎-elim}
 use native.Mathlib.Omega.{arith}
-use lib.Dec.{eqb, ltb}
 use Rattle.std.proofs.shelf.Tests.{both-ways, cases-lt, cases-eq, cases-bool, lt-ltb, le-ltb, eq-eqb, ne-eqb, and-left, and-right, and-from, not-from-true, not-from-false, not-true}
 use Rattle.calendar.proofs.Sums.{any-intro, any-elim}
 use Rattle.hour_bits.specs.Bits.{goes-on, hours-of, Sound-row, fewer-hours}

@@ -1,18 +1,16 @@
 -- The three words of a row, tested and changed by masks.
 use mathlib.Core.Path.{_≡_, refl, sym, ap, _∙_}
-use mathlib.Core.Bool.{Bool, true, false, _&&_, _||_, not, cond}
+use mathlib.Core.Bool.{Bool, true, false, not}
 use mathlib.Core.List.{List}
 use mathlib.Core.Logic.{_⊎_, inl, inr, ⊎-elim}
-use Prim.Native.Nat.{ℕ, zero, suc, _+_, _-_, _*_, _/_, _%_, _^_, _<_, _≤_, min, max}
+use Prim.Native.Nat.{ℕ, _+_, _-_, _*_, _/_, _%_, _^_, _<_}
 use native.Mathlib.Omega.{arith}
 use lib.Bits.{bitAnd, bitOr}
-use lib.Dec.{eqb, ltb, leb}
 use lib.ListN.{length, getD, set}
-use Rattle.std.proofs.shelf.Tests.{both-ways, cases-lt, cases-eq, cases-bool, lt-ltb, ltb-true, and-from, and-parts, not-false, not-true, not-from-false}
+use Rattle.std.proofs.shelf.Tests.{both-ways, cases-lt, lt-ltb, ltb-true, not-false, not-true, not-from-false}
 use Rattle.calendar.specs.Week.{any, later, covers}
 use Rattle.hour_bits.specs.Bits.{bit, row, Wrote, more-hours, fewer-hours}
 use Rattle.hour_bits.proofs.Circle.{ahead, covers-ahead, any-at}
-use mathlib.Core.Logic.{_≢_}
 use lib.Seq.{getD-set-same, getD-set-other}
 use Rattle.calendar.proofs.Circle.{covers-late}
 use Rattle.hour_bits.proofs.Words.{bit-and, bit-or, bit-not, apart-bits, shared-bit}
@@ -75,7 +73,7 @@ module _ (ws : List ℕ) (base : ℕ) where
 
 -- one word more is written
 module _ (ws cur : List ℕ) (base : ℕ) (new : ℕ → Bool) (j : ℕ) (fits : base + j < length cur) (before : Wrote ws cur base new j) where
-  pub write-more : (v : ℕ) → ((k : ℕ) → k < 64 → 64 * j + k < 168 → bit v k ≡ new (64 * j + k)) → Wrote ws (set cur (base + j) v) base new (j + 1)
+  write-more : (v : ℕ) → ((k : ℕ) → k < 64 → 64 * j + k < 168 → bit v k ≡ new (64 * j + k)) → Wrote ws (set cur (base + j) v) base new (j + 1)
   write-more v here = record {
     bits = λ h p q.
         ⊎-elim
@@ -91,7 +89,7 @@ module _ (ws cur : List ℕ) (base : ℕ) (new : ℕ → Bool) (j : ℕ) (fits :
         ∙ before .rest i (⊎-elim (λ l. inl l) (λ l. inr (omega arith)) o);
   }
 
-  pub old : (k : ℕ) → k < 64 → bit (getD cur (base + j) 0) k ≡ row ws base (64 * j + k)
+  old : (k : ℕ) → k < 64 → bit (getD cur (base + j) 0) k ≡ row ws base (64 * j + k)
   old k p = ap (λ x. bit x k) (before .rest (base + j) (inr (omega arith))) ∙ sym (row-at ws base j k p)
 
 pub wrote-none : (ws : List ℕ) (base : ℕ) (new : ℕ → Bool) → Wrote ws ws base new 0

@@ -8,8 +8,8 @@ use lib.Dec.{eqb}
 use Rattle.std.proofs.shelf.Tests.{both-ways, cases-order, cases-lt, cases-bool, cond-true, cond-false, and-parts, and-left, and-right, not-true, not-false, not-from-true, not-from-false, ne-eqb, eq-eqb}
 use Rattle.calendar.specs.Week.{any, least, later}
 use Rattle.calendar.proofs.Leasts.{least-law}
-use Rattle.hour_bits.specs.Bits.{goes-on, hours-of}
-use Rattle.hour_bits.proofs.Circle.{ahead, Free, Full, free-from, full-from, any-free, any-full}
+use Rattle.hour_bits.specs.Bits.{goes-on, lasts, hours-of}
+use Rattle.hour_bits.proofs.Circle.{ahead, free-from, full-from, any-free, any-full}
 
 -- a run of n hours starts at f: every later hour of it is held and no start, and the hour after it is not so
 pub record Run-at (held start : ℕ → Bool) (f n : ℕ) : Type 0 where
@@ -48,7 +48,7 @@ module _ {held start : ℕ → Bool} where
 module _ (held start : ℕ → Bool) where
   -- the length that is read off the bits is the run's
   pub run-there : (f : ℕ) → f < 168 → start f ≡ true → Run-at held start f (hours-of held start f)
-  unfolding hours-of
+  unfolding lasts
   run-there f p y =
       let stop : ℕ → Bool = λ j. not (goes-on held start (later f (suc j))) in
       let n : ℕ = least 167 stop in
@@ -72,31 +72,33 @@ module _ (held start : ℕ → Bool) where
   hours-are {f} p r = unique p (run-there f p (r .begins)) r
 
   pub hours-none : (f : ℕ) → start f ≡ false → hours-of held start f ≡ 0
-  unfolding hours-of
   hours-none f e = cond-false (start f) _ _ e
 
   pub hours-some : (f : ℕ) → 0 < hours-of held start f → start f ≡ true
   hours-some f l = ⊎-elim (λ y. y) (λ y. let e = hours-none f y in absurd (omega arith)) (cases-bool (start f))
 
 -- a run by the parts that a program tests
-module _ (held start : ℕ → Bool) (f n : ℕ) (p : f < 168) (some : 1 ≤ n) (most : n ≤ 168) where
-  is-run : hours-of held start f ≡ n → Run-at held start f n
-  is-run e = subst (Run-at held start f) e (run-there held start f p (hours-some held start f (omega arith)))
+module _ (held start : ℕ → Bool) (f n : ℕ) (p : f < 168) (some : 1 ≤ n) (most : n ≤ 168) (y : start f ≡ true) where
+  as-hours : lasts held start f ≡ hours-of held start f
+  as-hours = sym (cond-true (start f) (lasts held start f) 0 y)
 
-  pub no-start : start f ≡ false → eqb (hours-of held start f) n ≡ false
-  no-start e = let z = hours-none held start f e in ne-eqb (hours-of held start f) n (λ i. omega arith)
+  is-run : lasts held start f ≡ n → Run-at held start f n
+  is-run e = subst (Run-at held start f) (sym as-hours ∙ e) (run-there held start f p y)
 
-  pub not-held : any (n - 1) (λ j. not (held (later ((f + 1) % 168) j))) ≡ true → eqb (hours-of held start f) n ≡ false
+  run-is : Run-at held start f n → lasts held start f ≡ n
+  run-is r = as-hours ∙ hours-are held start p r
+
+  pub not-held : any (n - 1) (λ j. not (held (later ((f + 1) % 168) j))) ≡ true → false ≡ eqb (lasts held start f) n
   not-held e =
-      ne-eqb (hours-of held start f) n (λ i. let r = is-run i in
-      both-ways _ (any-full held ((f + 1) % 168) (n - 1) (omega arith) (omega arith) (λ h q s. r .goes h q (omega arith) (omega arith) .0)) e)
+      sym (ne-eqb (lasts held start f) n (λ i. let r = is-run i in
+      both-ways _ (any-full held ((f + 1) % 168) (n - 1) (omega arith) (omega arith) (λ h q s. r .goes h q (omega arith) (omega arith) .0)) e))
 
-  pub start-between : any (n - 1) (λ j. start (later ((f + 1) % 168) j)) ≡ true → eqb (hours-of held start f) n ≡ false
+  pub start-between : any (n - 1) (λ j. start (later ((f + 1) % 168) j)) ≡ true → false ≡ eqb (lasts held start f) n
   start-between e =
-      ne-eqb (hours-of held start f) n (λ i. let r = is-run i in
-      both-ways _ (any-free start ((f + 1) % 168) (n - 1) (omega arith) (omega arith) (λ h q s. r .goes h q (omega arith) (omega arith) .1)) e)
+      sym (ne-eqb (lasts held start f) n (λ i. let r = is-run i in
+      both-ways _ (any-free start ((f + 1) % 168) (n - 1) (omega arith) (omega arith) (λ h q s. r .goes h q (omega arith) (omega arith) .1)) e))
 
-  module _ (y : start f ≡ true) (full : any (n - 1) (λ j. not (held (later ((f + 1) % 168) j))) ≡ false) (free : any (n - 1) (λ j. start (later ((f + 1) % 168) j)) ≡ false) where
+  module _ (full : any (n - 1) (λ j. not (held (later ((f + 1) % 168) j))) ≡ false) (free : any (n - 1) (λ j. start (later ((f + 1) % 168) j)) ≡ false) where
     made : (n < 168 → goes-on held start (later f n) ≡ false) → Run-at held start f n
     made stop = record {
       begins = y;
@@ -108,16 +110,16 @@ module _ (held start : ℕ → Bool) (f n : ℕ) (p : f < 168) (some : 1 ≤ n) 
           ap start e ∙ not-false (start (later f n)) (second-false (held (later f n)) (not (start (later f n))) (sym (ap held e) ∙ s) (stop (omega arith)));
     }
 
-    pub whole-week : 168 ≤ n → true ≡ eqb (hours-of held start f) n
-    whole-week l = sym (eq-eqb (hours-of held start f) n (hours-are held start p (made (λ s. absurd (omega arith)))))
+    pub whole-week : 168 ≤ n → true ≡ eqb (lasts held start f) n
+    whole-week l = sym (eq-eqb (lasts held start f) n (run-is (made (λ s. absurd (omega arith)))))
 
     stops : n < 168 → Run-at held start f n → goes-on held start (later f n) ≡ false
     stops s r =
         ⊎-elim (λ y. and-right (held (later f n)) _ (not-from-true (start (later f n)) (r .ends (later f n) (omega arith) (omega arith) y))) (λ y. and-left (held (later f n)) _ y) (cases-bool (held (later f n)))
 
-    pub by-end : n < 168 → not (goes-on held start (later f n)) ≡ eqb (hours-of held start f) n
+    pub by-end : n < 168 → not (goes-on held start (later f n)) ≡ eqb (lasts held start f) n
     by-end s =
         ⊎-elim
-        (λ (g : goes-on held start (later f n) ≡ true). not-from-true (goes-on held start (later f n)) g ∙ sym (ne-eqb (hours-of held start f) n (λ i. both-ways (goes-on held start (later f n)) (stops s (is-run i)) g)))
-        (λ (g : goes-on held start (later f n) ≡ false). not-from-false (goes-on held start (later f n)) g ∙ sym (eq-eqb (hours-of held start f) n (hours-are held start p (made (λ _. g)))))
+        (λ (g : goes-on held start (later f n) ≡ true). not-from-true (goes-on held start (later f n)) g ∙ sym (ne-eqb (lasts held start f) n (λ i. both-ways (goes-on held start (later f n)) (stops s (is-run i)) g)))
+        (λ (g : goes-on held start (later f n) ≡ false). not-from-false (goes-on held start (later f n)) g ∙ sym (eq-eqb (lasts held start f) n (run-is (made (λ _. g)))))
         (cases-bool (goes-on held start (later f n)))

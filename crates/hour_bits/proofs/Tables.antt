@@ -1,10 +1,10 @@
 -- A run put into one row of the tables, or taken out, changes the live runs by just that run.
 use Prim.Native.Nat.{ℕ, _+_, _*_, _%_, _<_, _≤_}
-use mathlib.Core.Path.{_≡_, sym, ap, _∙_}
-use mathlib.Core.Bool.{Bool, true, false, not, cond}
+use mathlib.Core.Path.{_≡_, sym, _∙_}
+use mathlib.Core.Bool.{Bool, true, not, cond}
 use mathlib.Core.Logic.{⊎-elim}
 use native.Mathlib.Omega.{arith}
-use Rattle.std.proofs.shelf.Tests.{cases-eq, cases-bool, not-true, not-from-false, and-from, and-parts, both-ways, cond-true, cond-false}
+use Rattle.std.proofs.shelf.Tests.{cases-eq, cases-bool, cond-true, cond-false}
 use Rattle.calendar.specs.Meaning.{Meaning, within, with-run, put}
 use Rattle.calendar.specs.declared.run.Run.{Run}
 use Rattle.calendar.proofs.Kept.{put-here, put-link, put-channel, put-hour}

@@ -1,15 +1,15 @@
 -- The bits of words.
-use mathlib.Core.Path.{_≡_, refl, sym, ap, _∙_}
-use mathlib.Core.Bool.{Bool, true, false, _&&_, _||_, not, cond}
-use mathlib.Core.Logic.{_⊎_, inl, inr, ⊎-elim}
+use mathlib.Core.Path.{_≡_, sym, ap, _∙_}
+use mathlib.Core.Bool.{true, false, _&&_, _||_, not}
+use mathlib.Core.Logic.{_⊎_, ⊎-elim}
 use Prim.Native.Nat.{ℕ, zero, suc, _+_, _-_, _*_, _/_, _%_, _^_, _<_, _≤_, min, max}
-use native.Mathlib.Nat.{div-eq-of-lt, div-eq-of-lt-le, mod-eq-of-lt, one-mul}
+use native.Mathlib.Nat.{div-eq-of-lt, div-eq-of-lt-le, mod-eq-of-lt}
 use native.Mathlib.Numerals.{add-one}
 use native.Mathlib.Omega.{arith}
 use lib.Bits.{bitAnd, bitOr, bitXor, and-step, or-step, and-shr, or-shr, and-mask, and-comm, and-le-l, xor-add-and, xor-step, xor-shr, differ}
-use lib.Pow.{pow-pos, ones-split, ones-lt, high, pow-mono, pow-lt, pow-add, shl-shr}
-use lib.Dec.{eqb, ltb, leb, lit<}
-use Rattle.std.proofs.shelf.Tests.{cases-lt, cases-bool, both-ways, and-from, and-parts, cases-eq, eqb-true, lt-ltb, le-ltb, eq-eqb, ne-eqb}
+use lib.Pow.{pow-pos, ones-split, ones-lt, high, pow-mono, pow-add}
+use lib.Dec.{eqb, ltb, lit<}
+use Rattle.std.proofs.shelf.Tests.{cases-lt, cases-bool, both-ways, and-from, and-parts, eqb-true, lt-ltb, le-ltb, eq-eqb, ne-eqb}
 use Rattle.std.proofs.shelf.Ways.{tells}
 use Rattle.hour_bits.specs.Bits.{bit}
 use Rattle.hour_bits.proofs.Circle.{ahead, covers-ahead}
@@ -50,27 +50,6 @@ bit-ones m k = ⊎-elim yes-bit no-bit (cases-lt k m)
         let q : (2 ^ m - 1) / 2 ^ k ≡ 0 = let s = pow-mono l in let t = pow-pos m in div-eq-of-lt (omega arith) in
         ne-eqb _ 1 (λ e. omega arith) ∙ sym (le-ltb k m l)
 
--- one bit
-pub bit-one : (j k : ℕ) → bit (2 ^ j) k ≡ eqb k j
-bit-one j k = ⊎-elim high-bit low-bit (cases-lt k j)
-  where
-    high-bit : k < j → bit (2 ^ j) k ≡ eqb k j
-    high-bit l =
-        let i : ℕ = j - k - 1 in
-        let e : j ≡ (i + 1) + k = omega arith in
-        let q : 2 ^ j / 2 ^ k ≡ 2 ^ (i + 1) = ap (λ x. 2 ^ x / 2 ^ k) e ∙ ap (λ x. x / 2 ^ k) (pow-add 2 (i + 1) k) ∙ shl-shr (2 ^ (i + 1)) k in
-        let o = pow-add 2 i 1 in
-        ne-eqb _ 1 (λ e. omega arith) ∙ sym (ne-eqb k j (λ e. omega arith))
-
-    low-bit : j ≤ k → bit (2 ^ j) k ≡ eqb k j
-    low-bit l =
-        ⊎-elim
-        (λ (e : k ≡ j). let q : 2 ^ j / 2 ^ k ≡ 1 = ap (λ x. 2 ^ j / 2 ^ x) e ∙ ap (λ x. x / 2 ^ j) (sym (one-mul (2 ^ j))) ∙ shl-shr 1 j in
-        eq-eqb _ 1 (omega arith) ∙ sym (eq-eqb k j e))
-        (λ e. let q : 2 ^ j / 2 ^ k ≡ 0 = let s : j < k = omega arith in div-eq-of-lt (pow-lt s) in
-        ne-eqb _ 1 (λ e. omega arith) ∙ sym (ne-eqb k j e))
-        (cases-eq k j)
-
 digit-not : (d w : ℕ) → d < 2 → w ≡ differ 1 d → eqb w 1 ≡ not (eqb d 1)
 digit-not zero w p e = eq-eqb w 1 e
 digit-not (suc zero) w p e = ne-eqb w 1 (λ i. let z : w ≡ 0 = e in omega arith)
@@ -93,7 +72,7 @@ bit-not w x k p l =
     ∙ digit-not (x / 2 ^ k % 2) _ (omega arith) (let z = ap (λ u. differ u (x / 2 ^ k % 2)) o in let d = differ-le (x / 2 ^ k % 2) (omega arith) in omega arith)
 
 -- a number of w bits that is not 0 has a bit
-pub some-bit : (w x : ℕ) → x < 2 ^ w → 0 < x → (k : ℕ) × (k < w) × (bit x k ≡ true)
+some-bit : (w x : ℕ) → x < 2 ^ w → 0 < x → (k : ℕ) × (k < w) × (bit x k ≡ true)
 some-bit zero x p q = absurd (omega arith)
 some-bit (suc w) x p q =
     ⊎-elim

@@ -8,12 +8,15 @@
 --   words-mean ws L C       what the words mean
 --   Kept ws L C             what the words of a map keep
 --   Placed ws L C r b       a plant of that size can have the run r, and its six words begin at b
+--   Free-at ws L C r b      the run can be held there: no hour of it has its held bit set
+--   Live-at ws L C r b      the run is live there: the bits show it from its first hour on
 --   Spare ws ws' n          the words from n on, and their number, are as they were
 use Prim.Native.Nat.{ℕ, _+_, _-_, _*_, _<_, _≤_}
 use mathlib.Core.Path.{_≡_}
-use mathlib.Core.Bool.{Bool, true, not, cond}
+use mathlib.Core.Bool.{Bool, true, false, not, cond}
 use mathlib.Core.List.{List}
 use lib.ListN.{length, getD}
+use Rattle.calendar.specs.Week.{any, later}
 use Rattle.calendar.specs.Meaning.{Meaning, within, fits}
 use Rattle.calendar.specs.declared.run.Run.{Run}
 use Rattle.hour_bits.specs.Bits.{row, hours-of, Sound-row}
@@ -58,6 +61,14 @@ pub record Placed (ws : List ℕ) (L C : ℕ) (r : Run) (b : ℕ) : Type 0 where
   pub first : r .first < 168
   pub some : 1 ≤ r .hours
   pub most : r .hours ≤ 168
+
+pub record Free-at (ws : List ℕ) (L C : ℕ) (r : Run) (b : ℕ) : Type 0 where
+  pub place : Placed ws L C r b
+  pub free : any (r .hours) (λ j. row ws b (later (r .first) j)) ≡ false
+
+pub record Live-at (ws : List ℕ) (L C : ℕ) (r : Run) (b : ℕ) : Type 0 where
+  pub place : Placed ws L C r b
+  pub live : hours-of (row ws b) (row ws (b + 3)) (r .first) ≡ r .hours
 
 pub record Spare (ws ws' : List ℕ) (n : ℕ) : Type 0 where
   pub many : length ws' ≡ length ws

@@ -5,17 +5,16 @@ ghost use lib.ListN.{getD};
 ghost use Rattle.std.specs.Of.Vec.{vec-len, vec-items};
 ghost use Rattle.std.specs.Options.{Cases as BySome};
 ghost use Rattle.std.specs.Results.{Cases as ByOk};
-ghost use Rattle.calendar.specs.Numbers.{answer-number, making-number};
+ghost use Rattle.calendar.specs.Numbers.{refusal-number, answer-number, making-number};
 ghost use Rattle.calendar.specs.Making.{open-plant, sizes-fit, map-number};
 ghost use Rattle.calendar.specs.Meaning.{fits, hold-number, after-hold, release-number, after-release};
-ghost use Rattle.hour_bits.specs.Tables.{Placed, Spare};
-ghost use Rattle.bitmap.specs.Means.{map-means};
+ghost use Rattle.hour_bits.specs.Tables.{Placed, Free-at, Live-at, Spare};
+ghost use Rattle.bitmap.specs.Means.{map-means, Spares};
 use super::Map;
 use super::RefusedWords;
 use calendar::refusal::MakingRefusal;
 use calendar::refusal::PlantRefusal;
 use calendar::run::Run;
-use calendar::run::Size;
 use calendar::run::sizes_fit;
 use hour_bits::change::mark_run;
 use hour_bits::change::unmark_run;
@@ -70,7 +69,7 @@ fn make(words: Vec<u64>, links: u32, channels: u32) -> Map
 }
 
 impl Map {
-    // A map with no live run, or the words back.
+    // A map with no live run, or the words back. Only the words needed are cleared.
     pub fn new(words: Vec<u64>, links: u32, channels: u32) -> Result<Map, RefusedWords>
         ensures { λ r. ⌜ ByOk r
             (λ m. (map-number links channels (vec-len words) ≡ 0) × (map-means m ≡ open-plant links channels (links * channels * 168)) × Spare (vec-items words) (vec-items (m .words)) (links * channels * 6))
@@ -100,20 +99,17 @@ impl Map {
             (fits (now (self .entry) .links) (now (self .entry) .channels) run ≡ false)
             (λ base. Placed (vec-items (now (self .entry) .words)) (now (self .entry) .links) (now (self .entry) .channels) run base) ⌝ }
     {
-        if !run.fits(Size {
-            links: self.links,
-            channels: self.channels,
-        }) {
+        if !run.fits(self.sizes()) {
             return None;
         }
         Some(((run.link as usize - 1) * self.channels as usize + (run.channel as usize - 1)) * 6)
     }
 
-    // Adds exactly this run to the live ones, or refuses. A free run always has room: the limit is the number of cells.
-    pub fn hold(&mut self, run: Run) -> Result<(), PlantRefusal>
-        ensures answer { λ r. ⌜ answer-number r ≡ hold-number (map-means (now (self .entry))) run ⌝ }
-        ensures after { λ r. ⌜ map-means (now (self .exit)) ≡ after-hold (map-means (now (self .entry))) run ⌝ }
-        ensures spare { λ _. ⌜ Spare (vec-items (now (self .entry) .words)) (vec-items (now (self .exit) .words)) (now (self .entry) .links * now (self .entry) .channels * 6) ⌝ }
+    // Where the run can be held, or why it cannot. A free run always has room: the limit is the number of cells.
+    fn free_place(&self, run: Run) -> Result<usize, PlantRefusal>
+        ensures { λ r. ⌜ ByOk r
+            (λ base. Free-at (vec-items (now (self .entry) .words)) (now (self .entry) .links) (now (self .entry) .channels) run base)
+            (λ why. (hold-number (map-means (now (self .entry))) run ≡ refusal-number why) × (after-hold (map-means (now (self .entry))) run ≡ map-means (now (self .entry)))) ⌝ }
     {
         let Some(base) = self.place(run) else {
             return Err(PlantRefusal::OutOfRange);
@@ -121,20 +117,14 @@ impl Map {
         if !run_clear(&self.words, base, run.first as usize, run.hours as usize) {
             return Err(PlantRefusal::CellHeld);
         }
-        mark_run(
-            &mut self.words,
-            base,
-            run.first as usize,
-            run.hours as usize,
-        );
-        Ok(())
+        Ok(base)
     }
 
-    // Removes exactly this run from the live ones, or refuses.
-    pub fn release(&mut self, run: Run) -> Result<(), PlantRefusal>
-        ensures answer { λ r. ⌜ answer-number r ≡ release-number (map-means (now (self .entry))) run ⌝ }
-        ensures after { λ r. ⌜ map-means (now (self .exit)) ≡ after-release (map-means (now (self .entry))) run ⌝ }
-        ensures spare { λ _. ⌜ Spare (vec-items (now (self .entry) .words)) (vec-items (now (self .exit) .words)) (now (self .entry) .links * now (self .entry) .channels * 6) ⌝ }
+    // Where the run is live, or why it is not.
+    fn live_place(&self, run: Run) -> Result<usize, PlantRefusal>
+        ensures { λ r. ⌜ ByOk r
+            (λ base. Live-at (vec-items (now (self .entry) .words)) (now (self .entry) .links) (now (self .entry) .channels) run base)
+            (λ why. (release-number (map-means (now (self .entry))) run ≡ refusal-number why) × (after-release (map-means (now (self .entry))) run ≡ map-means (now (self .entry)))) ⌝ }
     {
         let Some(base) = self.place(run) else {
             return Err(PlantRefusal::OutOfRange);
@@ -142,12 +132,58 @@ impl Map {
         if !run_live(&self.words, base, run.first as usize, run.hours as usize) {
             return Err(PlantRefusal::NoSuchRun);
         }
+        Ok(base)
+    }
+
+    // Writes a free run into its words.
+    fn put(&mut self, base: usize, run: Run)
+        requires { ⌜ Free-at (vec-items (now self .words)) (now self .links) (now self .channels) run base ⌝ }
+        ensures answer { λ _. ⌜ 0 ≡ hold-number (map-means (now (self .entry))) run ⌝ }
+        ensures after { λ _. ⌜ map-means (now (self .exit)) ≡ after-hold (map-means (now (self .entry))) run ⌝ }
+        ensures spare { λ _. ⌜ Spares (now (self .entry)) (now (self .exit)) ⌝ }
+    {
+        mark_run(
+            &mut self.words,
+            base,
+            run.first as usize,
+            run.hours as usize,
+        );
+    }
+
+    // Clears a live run out of its words.
+    fn take_out(&mut self, base: usize, run: Run)
+        requires { ⌜ Live-at (vec-items (now self .words)) (now self .links) (now self .channels) run base ⌝ }
+        ensures answer { λ _. ⌜ 0 ≡ release-number (map-means (now (self .entry))) run ⌝ }
+        ensures after { λ _. ⌜ map-means (now (self .exit)) ≡ after-release (map-means (now (self .entry))) run ⌝ }
+        ensures spare { λ _. ⌜ Spares (now (self .entry)) (now (self .exit)) ⌝ }
+    {
         unmark_run(
             &mut self.words,
             base,
             run.first as usize,
             run.hours as usize,
         );
+    }
+
+    // Adds exactly this run to the live ones, or refuses. Words past those needed are left alone.
+    pub fn hold(&mut self, run: Run) -> Result<(), PlantRefusal>
+        ensures answer { λ r. ⌜ answer-number r ≡ hold-number (map-means (now (self .entry))) run ⌝ }
+        ensures after { λ r. ⌜ map-means (now (self .exit)) ≡ after-hold (map-means (now (self .entry))) run ⌝ }
+        ensures spare { λ _. ⌜ Spares (now (self .entry)) (now (self .exit)) ⌝ }
+    {
+        let base = self.free_place(run)?;
+        self.put(base, run);
+        Ok(())
+    }
+
+    // Removes exactly this run from the live ones, or refuses. Words past those needed are left alone.
+    pub fn release(&mut self, run: Run) -> Result<(), PlantRefusal>
+        ensures answer { λ r. ⌜ answer-number r ≡ release-number (map-means (now (self .entry))) run ⌝ }
+        ensures after { λ r. ⌜ map-means (now (self .exit)) ≡ after-release (map-means (now (self .entry))) run ⌝ }
+        ensures spare { λ _. ⌜ Spares (now (self .entry)) (now (self .exit)) ⌝ }
+    {
+        let base = self.live_place(run)?;
+        self.take_out(base, run);
         Ok(())
     }
 }

@@ -7,6 +7,7 @@ use calendar::run::Run;
 use calendar::run::Size;
 use plant::Plant;
 
+// Each call is one of the map's own, whose contract is the trait's.
 pub impl Plant for Map as MapPlant {
     ghost meaning = { map-means };
 

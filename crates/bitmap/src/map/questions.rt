@@ -4,7 +4,8 @@ ghost use Rattle.bitmap.specs.Means.{map-means};
 use super::Map;
 use calendar::run::Run;
 use calendar::run::Size;
-use hour_bits::row::count_rows;
+use hour_bits::row::count_held;
+use hour_bits::row::count_starts;
 use hour_bits::row::first_set;
 use hour_bits::row::row_bit;
 use hour_bits::row::run_clear;
@@ -25,7 +26,7 @@ impl Map {
         ensures { λ r. ⌜ r ≡ room-of (map-means (now (self .entry))) ⌝ }
     {
         let rows = self.links as u32 * self.channels as u32;
-        rows * 168 - count_rows(&self.words, 3, rows as usize)
+        rows * 168 - count_starts(&self.words, rows as usize)
     }
 
     pub(crate) fn cell_closed(&self, link: u8, channel: u8, hour: u8) -> bool
@@ -37,10 +38,7 @@ impl Map {
             first: hour,
             hours: 1,
         };
-        !cell.fits(Size {
-            links: self.links,
-            channels: self.channels,
-        })
+        !cell.fits(self.sizes())
     }
 
     pub(crate) fn cell_held(&self, link: u8, channel: u8, hour: u8) -> bool
@@ -71,7 +69,7 @@ impl Map {
         let Some(base) = self.place(cell) else {
             return 0;
         };
-        count_rows(&self.words, base, self.channels as usize)
+        count_held(&self.words, base, self.channels as usize)
     }
 
     // The first hour of the run that is not free, if any. Only a run that masks show to be taken is walked through.

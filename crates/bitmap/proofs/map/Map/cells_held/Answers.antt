@@ -1,10 +1,9 @@
 use Prim.Native.Nat.{_+_, _*_}
-use mathlib.Core.Path.{_≡_, sym, ap, _∙_}
+use mathlib.Core.Path.{sym, ap, _∙_}
 use native.Mathlib.Omega.{arith}
 use lib.ListN.{length}
 use Rattle.std.proofs.shelf.Tests.{both-ways}
 use Rattle.calendar.specs.Week.{total}
-use Rattle.calendar.specs.declared.run.Run.{Run}
 use Rattle.hour_bits.specs.Bits.{row, bit-count}
 use Rattle.hour_bits.proofs.Calls.{cell-fits, fits-parts, link-fits}
 use Rattle.hour_bits.proofs.Counts.{count-words, count-none}
@@ -17,8 +16,8 @@ returns-in-rest c = let m = c .args .self .now in let ws = m .words .items in
     count-none ws (m .links) (m .channels) (kept-of ws (m .links) (m .channels) (m .kept)) (c .args .link)
     (λ w. both-ways _ (sym (cell-fits (m .links) (m .channels) (c .args .link) 1 0) ∙ c .in-rest .ensures tt) (within-from (m .links) (m .channels) (c .args .link) 1 0 w (omega arith)))
 
-pub count-rows-requires : need.count-rows-requires
-count-rows-requires c κs = let m = c .args .self .now in let ws = m .words .items in
+pub count-held-requires : need.count-held-requires
+count-held-requires c κs = let m = c .args .self .now in let ws = m .words .items in
     let p = c .in-Some .ensures tt in
     let w = fits-parts (m .links) (m .channels) (record { link = c .args .link; channel = 1; first = 0; hours = 1 }) (p .fit) .0 in
     let k = kept-of ws (m .links) (m .channels) (m .kept) in
@@ -32,6 +31,6 @@ pub returns : need.returns
 returns c = let m = c .args .self .now in let ws = m .words .items in
     let p = c .in-Some .ensures tt in
     let w = fits-parts (m .links) (m .channels) (record { link = c .args .link; channel = 1; first = 0; hours = 1 }) (p .fit) .0 in
-    c .count-rows .ensures ∙ ap (λ xs. total (m .channels) (λ i. bit-count (row xs (c .in-Some .base + i * 6)))) (c .deref .ensures .value)
+    c .count-held .ensures ∙ ap (λ xs. total (m .channels) (λ i. bit-count (row xs (c .in-Some .base + i * 6)))) (c .deref .ensures .value)
     ∙ ap (λ b. total (m .channels) (λ i. bit-count (row ws (b + i * 6)))) (p .base)
     ∙ count-words ws (m .links) (m .channels) (kept-of ws (m .links) (m .channels) (m .kept)) (c .args .link) (w .0) (w .1)

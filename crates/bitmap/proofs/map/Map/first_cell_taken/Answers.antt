@@ -1,12 +1,11 @@
-use mathlib.Core.Path.{_≡_, sym, ap, _∙_}
+use mathlib.Core.Path.{sym, ap, _∙_}
 use mathlib.Core.Bool.{not}
 use Rattle.std.proofs.shelf.Tests.{not-true}
 use Rattle.calendar.specs.Week.{any, later}
 use Rattle.calendar.proofs.Takens.{taken-out}
-use Rattle.hour_bits.specs.Bits.{row, first-set}
+use Rattle.hour_bits.specs.Bits.{row}
 use Rattle.hour_bits.specs.Tables.{words-mean}
-use Rattle.hour_bits.proofs.Calls.{words-proper, first-words}
-use Rattle.hour_bits.proofs.Firsts.{set-missed}
+use Rattle.hour_bits.proofs.Calls.{words-proper, first-is, first-none}
 use Rattle.hour_bits.proofs.Keeping.{kept-of}
 use Rattle.bitmap.proofs.map.Map.first_cell_taken.Needs as need
 
@@ -17,10 +16,8 @@ returns-in-rest c = let m = c .args .self .now in let ws = m .words .items in
 pub returns-then-run-clear : need.returns-then-run-clear
 returns-then-run-clear c = let m = c .args .self .now in let ws = m .words .items in let run = c .args .run in
     let e = sym (ap (λ xs. not (any (run .hours) (λ j. row xs (c .in-Some .base) (later (run .first) j)))) (c .deref .ensures .value)) ∙ sym (c .run-clear .ensures) ∙ c .if-run-clear .taken in
-    set-missed (row ws (c .in-Some .base)) (run .first) (run .hours) (not-true _ e)
-    ∙ first-words ws (m .links) (m .channels) (kept-of ws (m .links) (m .channels) (m .kept)) run (c .in-Some .base) (c .in-Some .ensures tt)
+    first-none ws (m .links) (m .channels) (kept-of ws (m .links) (m .channels) (m .kept)) run (c .in-Some .base) (c .in-Some .ensures tt) (not-true _ e)
 
 pub returns : need.returns
-returns c = let m = c .args .self .now in let ws = m .words .items in let run = c .args .run in
-    c .first-set .ensures ∙ ap (λ xs. first-set (row xs (c .in-Some .base)) (run .first) (run .hours)) (c .deref-2 .ensures .value)
-    ∙ first-words ws (m .links) (m .channels) (kept-of ws (m .links) (m .channels) (m .kept)) run (c .in-Some .base) (c .in-Some .ensures tt)
+returns c = let m = c .args .self .now in let ws = m .words .items in
+    first-is ws (m .links) (m .channels) (kept-of ws (m .links) (m .channels) (m .kept)) (c .args .run) (c .in-Some .base) (c .in-Some .ensures tt) (c .deref-2 .result .now) (c .first-set .result) (c .first-set .ensures) (c .deref-2 .ensures .value)

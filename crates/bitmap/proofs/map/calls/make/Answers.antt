@@ -1,4 +1,3 @@
-use Prim.Native.Nat.{_*_}
 use mathlib.Core.Path.{subst}
 use native.Mathlib.Omega.{arith}
 use Rattle.calendar.proofs.Made.{sizes-parts}

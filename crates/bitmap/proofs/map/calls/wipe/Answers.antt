@@ -1,8 +1,5 @@
-use Prim.Native.Nat.{_<_, _≤_}
 use mathlib.Core.Path.{refl}
 use native.Mathlib.Omega.{arith}
-use lib.ListN.{length}
-use Rattle.hour_bits.specs.Tables.{Spare}
 use Rattle.hour_bits.proofs.Keeping.{wipe-more}
 use Rattle.bitmap.proofs.map.calls.wipe.Needs as need
 
