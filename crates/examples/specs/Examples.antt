@@ -10,6 +10,8 @@ use mathlib.Core.Path.{_≡_}
 use lib.Dec.{eqb}
 use Rattle.calendar.specs.Week.{any, total, later, covers, shares}
 use Rattle.calendar.specs.Layers.{moved}
+use Rattle.network.specs.Kinds.{by-length, stopped}
+use Rattle.ways.specs.Hours.{block-fits}
 
 pub record Example : Type 0 where
   pub gives : ℕ
@@ -40,6 +42,11 @@ examples =
     ∷ record { gives = total 168 (λ h. cond (covers 10 6 h) (cond (covers 15 3 h) h 0) 0); should-give = 15 }
     -- a clock of 162 takes hour 6 to hour 0
     ∷ record { gives = moved 162 (record { link = 1; channel = 1; first = 6; hours = 1 }) .first; should-give = 0 }
+    -- a length of 4,294,967,295 metres joined with 1 stays
+    ∷ record { gives = by-length .joined (stopped 4294967295) (stopped 1) .value; should-give = 4294967295 }
+    -- the block of width 2 from channel 3 up fits 4 channels, and the one from channel 4 up does not
+    ∷ record { gives = yes-no (block-fits 4 3 2); should-give = 1 }
+    ∷ record { gives = yes-no (block-fits 4 4 2); should-give = 0 }
     ∷ []
 
 abbrev given : List Example → List ℕ

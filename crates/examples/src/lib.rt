@@ -6,7 +6,7 @@ ghost use Rattle.examples.specs.Examples.{examples, Examples-stand};
 pub fn example_count() -> u8
     ensures { λ r. ⌜ r ≡ length examples ⌝ }
 {
-    7
+    10
 }
 
 // Every worked example comes out as it should.

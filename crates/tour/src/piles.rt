@@ -22,8 +22,8 @@ fn one_window(link: u32, first: u32, hours: u32) -> Result<WindowTable, AnyError
 // Windows over a map.
 pub fn office(heap: Global) -> Result<Windows<Map>, AnyError> {
     let windows = one_window(2, 20, 4)?;
-    let words: Vec<u64> = vec![in heap; 0; 36]?;
-    match Map::new(words, 3, 2) {
+    let words: Vec<u64> = vec![in heap; 0; 48]?;
+    match Map::new(words, 4, 2) {
         Ok(map) => Ok(Windows::new(map, windows)),
         Err(_) => Err("the map is refused".into()),
     }
@@ -42,7 +42,7 @@ pub fn rack(heap: Global) -> Result<Windows<Clock<Timetable>>, AnyError> {
     let Ok(offset) = Offset::new(162) else {
         return Err("the offset is refused".into());
     };
-    match Timetable::new(rows, 3, 2) {
+    match Timetable::new(rows, 4, 2) {
         Ok(timetable) => Ok(Windows::new(Clock::new(timetable, offset), windows)),
         Err(_) => Err("the timetable is refused".into()),
     }

@@ -111,7 +111,7 @@ pub fn office_steps<P: Plant>(rt: &LibcRuntime, plant: &mut P) -> io::Result<()>
     hold(rt, plant, 1, 1, 1, 1)?;
     hold(rt, plant, 1, 1, 2, 164)?;
     hold(rt, plant, 2, 1, 22, 1)?;
-    hold(rt, plant, 4, 1, 0, 1)?;
+    hold(rt, plant, 5, 1, 0, 1)?;
     ask(rt, plant, 2, 1, 10, 168)?;
     release(rt, plant, 1, 1, 166, 2)?;
     release(rt, plant, 1, 1, 166, 4)

@@ -1,0 +1,11 @@
+pub mod Choice
+pub mod Costs
+pub mod Ends
+pub mod Flags
+pub mod Kinds
+pub mod Limits
+pub mod Making
+pub mod Method
+pub mod Numbers
+pub mod Paths
+pub mod Places

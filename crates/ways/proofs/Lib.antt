@@ -1,0 +1,4 @@
+pub mod Asked
+pub mod Noted
+pub mod Totals
+pub mod Fits

@@ -1,0 +1,9 @@
+pub mod blocks;
+pub mod costs;
+pub mod find;
+pub mod fit;
+pub mod open_cells;
+pub mod order;
+pub mod search;
+pub mod space;
+pub mod way;
