@@ -1,0 +1,3 @@
+pub mod plain_ways;
+#[cfg(test)]
+mod random;
