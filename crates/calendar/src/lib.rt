@@ -1,3 +1,5 @@
+#![tactic(auto)]
+
 pub mod hours;
 pub mod refusal;
 pub mod run;

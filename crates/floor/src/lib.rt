@@ -1,3 +1,5 @@
+#![tactic(auto)]
+
 pub mod cells;
 pub mod floor;
 pub mod laws;

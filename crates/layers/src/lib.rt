@@ -1,3 +1,5 @@
+#![tactic(auto)]
+
 pub mod card_order;
 pub mod card_table;
 pub mod clock;

@@ -50,9 +50,9 @@ pub fn chosen_path<C: Cost>(
     from: u8,
     to: u8,
 ) -> Option<Path>
-    ensures numbers { option_map path_numbers result ≡ chosen_path kind net.now (may_use usable.now) from to }
+    ensures numbers { option_map path_numbers result ≡ chosen_path C.kind net.now (may_use usable.now) from to }
     ensures formed { IfSome result Formed }
-    ensures least { Rightly (ground kind net.now (may_use usable.now)) net.now.hops from to (option_map path_numbers result) }
+    ensures least { Rightly (ground C.kind net.now (may_use usable.now)) net.now.hops from to (option_map path_numbers result) }
 {
     if !net.two_places(from, to) {
         return None;
@@ -67,5 +67,5 @@ pub fn chosen_path<C: Cost>(
 // On every network, for every cost kind: what the definition names is a path, no path comes before it, and there is only
 // one such; where it names nothing there is no path.
 pub fn chosen_is_the_least<C: Cost>()
-    ensures { ChosenIsLeast kind }
+    ensures { ChosenIsLeast C.kind }
 {}

@@ -1,3 +1,5 @@
+#![tactic(auto)]
+
 pub mod dice;
 #[cfg(test)]
 mod examples;

@@ -1,2 +1,4 @@
+#![tactic(auto)]
+
 pub mod planner;
 pub mod runs;

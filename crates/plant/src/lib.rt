@@ -1,3 +1,5 @@
+#![tactic(auto)]
+
 pub mod timetable;
 
 ghost use Rattle.std.specs.Prelude.{◌≡◌};

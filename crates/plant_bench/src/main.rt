@@ -1,3 +1,5 @@
+#![tactic(auto)]
+
 mod hour_table;
 mod rounds;
 mod subject;

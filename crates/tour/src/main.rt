@@ -1,3 +1,5 @@
+#![tactic(auto)]
+
 mod piles;
 mod routes;
 mod steps;

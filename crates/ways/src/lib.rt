@@ -1,3 +1,5 @@
+#![tactic(auto)]
+
 pub mod blocks;
 pub mod costs;
 pub mod find;

@@ -1,3 +1,5 @@
+#![tactic(auto)]
+
 pub mod plain_ways;
 #[cfg(test)]
 mod random;

@@ -27,7 +27,7 @@ impl<C: Copy> Scratch<C> {
 
 // The lesser of two costs, where each may be absent.
 fn cheaper<C: Cost>(x: Option<C>, y: Option<C>) -> Option<C>
-    ensures { result ≡ better kind.at_most x y }
+    ensures { result ≡ better C.kind.at_most x y }
 {
     match (x, y) {
         (None, _) => y,
@@ -38,7 +38,7 @@ fn cheaper<C: Cost>(x: Option<C>, y: Option<C>) -> Option<C>
 
 // The cost of a link joined with what is ahead of it.
 fn with_link<C: Cost>(price: C, ahead: Option<C>) -> Option<C>
-    ensures { result ≡ extended kind.joined price ahead }
+    ensures { result ≡ extended C.kind.joined price ahead }
 {
     match ahead {
         Some(c) => Some(price.join(c)),
@@ -50,7 +50,7 @@ fn with_link<C: Cost>(price: C, ahead: Option<C>) -> Option<C>
 fn relax<C: Cost>(scratch: &mut Scratch<C>, j: u8, v: u8, price: C, w: u8)
     requires { (j < 8) × ((v < 33) × (w < 33)) }
     ensures { scratch.new.cells.items ≡ slice_set scratch.old.cells.items ((j + 1) * 33 + v)
-        (better kind.at_most (cell_at scratch.old.cells.items (j + 1) v) (extended kind.joined price (cell_at scratch.old.cells.items j w))) }
+        (better C.kind.at_most (cell_at scratch.old.cells.items (j + 1) v) (extended C.kind.joined price (cell_at scratch.old.cells.items j w))) }
 {
     let offered = with_link(price, scratch.cell(j, w));
     let known = scratch.cell(j + 1, v);
@@ -60,7 +60,7 @@ fn relax<C: Cost>(scratch: &mut Scratch<C>, j: u8, v: u8, price: C, w: u8)
 // Offers a link that may be used to both of its ends, in the row after row j.
 fn relax_link<C: Cost>(net: &Network, usable: &Usable, scratch: &mut Scratch<C>, j: u8, number: u8)
     requires { j < 8 }
-    ensures { Relaxed (ground kind net.now (may_use usable.now)) scratch.old.cells.items scratch.new.cells.items j number }
+    ensures { Relaxed (ground C.kind net.now (may_use usable.now)) scratch.old.cells.items scratch.new.cells.items j number }
 {
     if !usable.is_usable(number) {
         return;
@@ -86,7 +86,7 @@ fn clear_row<C: Copy>(scratch: &mut Scratch<C>, j: u8)
 // The row of no links: only the target is where one has to be.
 fn first_row<C: Cost>(scratch: &mut Scratch<C>, to: u8)
     requires { to < 33 }
-    ensures { (v : ℕ) → v < 33 → cell_at scratch.new.cells.items 0 v ≡ (if nat_eq v to then Some kind.none else None) }
+    ensures { (v : ℕ) → v < 33 → cell_at scratch.new.cells.items 0 v ≡ (if nat_eq v to then Some C.kind.none else None) }
 {
     clear_row(scratch, 0);
     scratch.put(0, to, Some(C::zero()));
@@ -95,7 +95,7 @@ fn first_row<C: Cost>(scratch: &mut Scratch<C>, to: u8)
 // The row after row j, by going over the links once.
 fn next_row<C: Cost>(net: &Network, usable: &Usable, scratch: &mut Scratch<C>, j: u8)
     requires { j < 8 }
-    ensures { NextRow (ground kind net.now (may_use usable.now)) scratch.old.cells.items scratch.new.cells.items j }
+    ensures { NextRow (ground C.kind net.now (may_use usable.now)) scratch.old.cells.items scratch.new.cells.items j }
 {
     clear_row(scratch, j + 1);
     for number in 1..net.link_count() + 1 {
@@ -106,7 +106,7 @@ fn next_row<C: Cost>(net: &Network, usable: &Usable, scratch: &mut Scratch<C>, j
 // At each place the least cost of exactly j links from there to the target, for each j up to the hop limit.
 pub(super) fn fill_table<C: Cost>(net: &Network, usable: &Usable, scratch: &mut Scratch<C>, to: u8)
     requires { to < 33 }
-    ensures { Tabled (ground kind net.now (may_use usable.now)) to scratch.new.cells.items net.now.hops }
+    ensures { Tabled (ground C.kind net.now (may_use usable.now)) to scratch.new.cells.items net.now.hops }
 {
     first_row(scratch, to);
     for j in 0..net.hops() {

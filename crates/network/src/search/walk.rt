@@ -40,7 +40,7 @@ fn next_place(net: &Network, usable: &Usable, v: u8, number: u8) -> Option<u8>
 
 // The cost of the link of that number.
 pub fn price<C: Cost>(net: &Network, number: u8) -> C
-    ensures { result ≡ price_of kind net.now number }
+    ensures { result ≡ price_of C.kind net.now number }
 {
     match net.link(number) {
         Some(link) => C::of_link(&link),
@@ -60,7 +60,7 @@ fn fits_here<C: Cost>(
     number: u8,
 ) -> bool
     requires { left < 9 }
-    ensures { result ≡ fit (ground kind net.now (may_use usable.now)) bound (cell_at scratch.now.cells.items left) v paid number }
+    ensures { result ≡ fit (ground C.kind net.now (may_use usable.now)) bound (cell_at scratch.now.cells.items left) v paid number }
 {
     let Some(w) = next_place(net, usable, v, number) else {
         return false;
@@ -93,7 +93,7 @@ fn first_fit<C: Cost>(
     paid: C,
 ) -> Option<u8>
     requires { left < 9 }
-    ensures { result ≡ first_below (fit (ground kind net.now (may_use usable.now)) bound (cell_at scratch.now.cells.items left) v paid) (ground kind net.now (may_use usable.now)).numbers }
+    ensures { result ≡ first_below (fit (ground C.kind net.now (may_use usable.now)) bound (cell_at scratch.now.cells.items left) v paid) (ground C.kind net.now (may_use usable.now)).numbers }
 {
     let mut first = None;
     for number in 1..net.link_count() + 1 {
@@ -125,7 +125,7 @@ pub(super) fn walk_out<C: Cost>(
     bound: C,
 ) -> Path
     requires { count < 9 }
-    ensures numbers { path_numbers result ≡ greedy (ground kind net.now (may_use usable.now)) bound (cell_at scratch.now.cells.items) count from kind.none }
+    ensures numbers { path_numbers result ≡ greedy (ground C.kind net.now (may_use usable.now)) bound (cell_at scratch.now.cells.items) count from C.kind.none }
     ensures formed { Formed result }
 {
     let mut links = [0u8; 8];

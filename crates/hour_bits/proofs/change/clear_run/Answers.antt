@@ -15,7 +15,7 @@ loop-j-preserved c =
     let i = c.args.base + c.loop-j.j in
     let lt : i < length V = omega arith in
     let e : c.index-word.result.now ≡ get_or V i 0 = c.index-word.ensures ∙ get_or_default V i c.index-word.result.now 0 lt in (
-      subst (λ x. Wrote W (set V i (bit_and x (2 ^ 64 - 1 - c.run-mask.result))) c.args.base (fewer_hours (row W c.args.base) c.args.first c.args.hours) (c.loop-j.j + 1)) (sym e)
-          (clear_word W V c.args.base c.args.first c.args.hours c.loop-j.j c.run-mask.result c.run-mask.ensures (search rules) (search rules) c.loop-j.invariant.0),
+      subst (λ x. Wrote W (set V i (bit_and x (2 ^ 64 - 1 - c.run_mask.result))) c.args.base (fewer_hours (row W c.args.base) c.args.first c.args.hours) (c.loop-j.j + 1)) (sym e)
+          (clear_word W V c.args.base c.args.first c.args.hours c.loop-j.j c.run_mask.result c.run_mask.ensures (search rules) (search rules) c.loop-j.invariant.0),
       c.loop-j.invariant.1,
     )

@@ -15,7 +15,7 @@ loop-j-preserved c =
     let i = c.args.base + c.loop-j.j in
     let lt : i < length V = omega arith in
     let e : c.index-word.result.now ≡ get_or V i 0 = c.index-word.ensures ∙ get_or_default V i c.index-word.result.now 0 lt in (
-      subst (λ x. Wrote W (set V i (bit_or x c.run-mask.result)) c.args.base (more_hours (row W c.args.base) c.args.first c.args.hours) (c.loop-j.j + 1)) (sym e)
-          (set_more W V c.args.base c.args.first c.args.hours c.loop-j.j c.run-mask.result c.run-mask.ensures (search rules) c.loop-j.invariant.0),
+      subst (λ x. Wrote W (set V i (bit_or x c.run_mask.result)) c.args.base (more_hours (row W c.args.base) c.args.first c.args.hours) (c.loop-j.j + 1)) (sym e)
+          (set_more W V c.args.base c.args.first c.args.hours c.loop-j.j c.run_mask.result c.run_mask.ensures (search rules) c.loop-j.invariant.0),
       c.loop-j.invariant.1,
     )

@@ -8,8 +8,8 @@ use Rattle.hour_bits.proofs.row.count_rows.Goals as goal
 pub loop-i-init : goal.loop-i-init
 loop-i-init c = (sym (total_empty (λ k. bit_count (row c.args.words.now (c.args.base + k * 6)))), omega arith)
 
-pub overflow-add-count : goal.overflow-add-count
-overflow-add-count c = let m = count_most (row c.args.words.now (c.args.base + c.loop-i.i * 6)) in omega arith
+pub overflow_add-count : goal.overflow_add-count
+overflow_add-count c = let m = count_most (row c.args.words.now (c.args.base + c.loop-i.i * 6)) in omega arith
 
 pub loop-i-preserved : goal.loop-i-preserved
 loop-i-preserved c =

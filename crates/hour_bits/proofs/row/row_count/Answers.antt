@@ -4,14 +4,14 @@ use lib.Count.{ones-le}
 use Rattle.hour_bits.proofs.Ones.{row_ones}
 use Rattle.hour_bits.proofs.row.row_count.Goals as goal
 
-pub overflow-add-early-2 : goal.overflow-add-early-2
-overflow-add-early-2 c =
+pub overflow_add-early-2 : goal.overflow_add-early-2
+overflow_add-early-2 c =
     let w = c.args.words.now in
     let b = c.args.base in
     omega (arith, ones-le 64 (get_or w b 0) (search rules), ones-le 64 (get_or w (b + 1) 0) (search rules))
 
-pub overflow-add-result-2 : goal.overflow-add-result-2
-overflow-add-result-2 c =
+pub overflow_add-result-2 : goal.overflow_add-result-2
+overflow_add-result-2 c =
     let w = c.args.words.now in
     let b = c.args.base in
     omega (arith, ones-le 64 (get_or w b 0) (search rules), ones-le 64 (get_or w (b + 1) 0) (search rules), ones-le 40 (bit_and (get_or w (b + 2) 0) (2 ^ 40 - 1)) (mask_lt (get_or w (b + 2) 0) 40))

@@ -3,28 +3,28 @@ use Rattle.network.specs.Flags.{may_use}
 use Rattle.network.proofs.Finds.{chosen_outside, chosen_nothing, chosen_walked, picked_few, named_rightly}
 use Rattle.network.proofs.search.chosen_path.Goals as goal
 
-pub returns-then-not-two-places : goal.returns-then-not-two-places
-returns-then-not-two-places g c =
+pub returns-then-not-two_places : goal.returns-then-not-two_places
+returns-then-not-two_places g c =
     let k = g.C.Cost in
     let a = c.args in
     let free = may_use a.usable.now in
-    let e = chosen_outside k.kind k.laws a.net.now free a.from a.to (sym c.if-not-two-places.ensures) in
+    let e = chosen_outside k.kind k.laws a.net.now free a.from a.to (sym c.if-not-two_places.ensures) in
     record { numbers = e; formed = tt; least = named_rightly k.kind k.laws a.net.now free a.from a.to _ e }
 
-pub returns-in-default : goal.returns-in-default
-returns-in-default g c =
+pub returns-in_default : goal.returns-in_default
+returns-in_default g c =
     let k = g.C.Cost in
     let a = c.args in
     let free = may_use a.usable.now in
-    let e = chosen_nothing k.kind k.laws a.net.now free a.from a.to (sym c.if-not-two-places.ensures) c.fill-table.new.scratch.cells.items c.fill-table.ensures c.in-default.ensures in
+    let e = chosen_nothing k.kind k.laws a.net.now free a.from a.to (sym c.if-not-two_places.ensures) c.fill_table.new.scratch.cells.items c.fill_table.ensures c.in_default.ensures in
     record { numbers = e; formed = tt; least = named_rightly k.kind k.laws a.net.now free a.from a.to _ e }
 
-pub walk-out-requires : goal.walk-out-requires
-walk-out-requires g c =
+pub walk_out-requires : goal.walk_out-requires
+walk_out-requires g c =
     let k = g.C.Cost in
     let a = c.args in
     let b = c.in-Some.best in
-    picked_few k.kind k.laws a.net.now (may_use a.usable.now) a.from a.to (sym c.if-not-two-places.ensures) c.fill-table.new.scratch.cells.items c.fill-table.ensures b.0 b.1 c.in-Some.ensures
+    picked_few k.kind k.laws a.net.now (may_use a.usable.now) a.from a.to (sym c.if-not-two_places.ensures) c.fill_table.new.scratch.cells.items c.fill_table.ensures b.0 b.1 c.in-Some.ensures
 
 pub returns : goal.returns
 returns g c =
@@ -32,5 +32,5 @@ returns g c =
     let a = c.args in
     let free = may_use a.usable.now in
     let b = c.in-Some.best in
-    let e = ap Some c.walk-out.ensures.numbers ∙ chosen_walked k.kind k.laws a.net.now free a.from a.to (sym c.if-not-two-places.ensures) c.fill-table.new.scratch.cells.items c.fill-table.ensures b.0 b.1 c.in-Some.ensures in
-    record { numbers = e; formed = c.walk-out.ensures.formed; least = named_rightly k.kind k.laws a.net.now free a.from a.to _ e }
+    let e = ap Some c.walk_out.ensures.numbers ∙ chosen_walked k.kind k.laws a.net.now free a.from a.to (sym c.if-not-two_places.ensures) c.fill_table.new.scratch.cells.items c.fill_table.ensures b.0 b.1 c.in-Some.ensures in
+    record { numbers = e; formed = c.walk_out.ensures.formed; least = named_rightly k.kind k.laws a.net.now free a.from a.to _ e }

@@ -14,13 +14,13 @@ loop-j-init g c = any_empty (taken_at (g.Self.Plant.meaning c.args.self.now) c.a
 
 pub loop-j-preserved : goal.loop-j-preserved
 loop-j-preserved g c = let m = g.Self.Plant.meaning c.args.self.now in let r = c.args.run in
-    any_next c.loop-j.j (taken_at m r) c.loop-j.invariant (sym c.if-taken.false ∙ c.taken.ensures ∙ ap (taken m r.link r.channel) c.hour-after-hour.ensures)
+    any_next c.loop-j.j (taken_at m r) c.loop-j.invariant (sym c.if-taken.false ∙ c.taken.ensures ∙ ap (taken m r.link r.channel) c.hour_after-hour.ensures)
 
 pub returns-then-taken : goal.returns-then-taken
 returns-then-taken g c = let m = g.Self.Plant.meaning c.args.self.now in let r = c.args.run in
-    ap Some c.hour-after-hour.ensures
+    ap Some c.hour_after-hour.ensures
     ∙ taken_found m r c.loop-j.j (sym (c.fits.ensures ∙ proper_size m r c.size.result c.size.ensures) ∙ c.if-not-fits.false) c.loop-j-test.true c.loop-j.invariant
-    (sym (c.taken.ensures ∙ ap (taken m r.link r.channel) c.hour-after-hour.ensures) ∙ c.if-taken.true)
+    (sym (c.taken.ensures ∙ ap (taken m r.link r.channel) c.hour_after-hour.ensures) ∙ c.if-taken.true)
 
 pub returns : goal.returns
 returns g c = let m = g.Self.Plant.meaning c.args.self.now in let r = c.args.run in

@@ -3,8 +3,8 @@ use Rattle.std.proofs.lemmas.List.Elements.{AllWithin-push}
 use Rattle.network.specs.Ends.{Inside}
 use Rattle.network.proofs.network.Network.add.Goals as goal
 
-pub invariant-of-self : goal.invariant-of-self
-invariant-of-self c =
+pub invariant_of-self : goal.invariant_of-self
+invariant_of-self c =
     let n = c.args.self.now in
-    let p = c.push-reserved.ensures in
-    (n.sizes, (omega (arith, p.len), (omega (arith, p.capacity), (rw p.items (AllWithin-push (Inside n.places) _ _ n.within (omega arith)), tt))))
+    let p = c.push_reserved.ensures in
+    record { sizes = n.sizes; few = omega (arith, p.len); room = omega (arith, p.capacity); within = rw p.items (AllWithin-push (Inside n.places) _ _ n.within (omega arith)) }

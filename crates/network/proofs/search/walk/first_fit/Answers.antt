@@ -16,9 +16,9 @@ loop-number-init g c =
     first_start (fit over a.bound ahead a.v a.paid) (no_fit over a.bound ahead a.v a.paid 0 (crossing_absent a.net.now free 0 refl a.v))
 
 pub loop-number-preserved : goal.loop-number-preserved
-loop-number-preserved g c = first_more _ c.loop-number.number _ _ _ c.loop-number.invariant c.fits-here.ensures c.earlier-first.ensures
+loop-number-preserved g c = first_more _ c.loop-number.number _ _ _ c.loop-number.invariant c.fits_here.ensures c.earlier-first.ensures
 
 pub returns : goal.returns
 returns g c =
     let over = ground g.C.Cost.kind c.args.net.now (may_use c.args.usable.now) in
-    first_all _ c.loop-number.number over.numbers c.loop-number.first c.loop-number.invariant (omega (arith, c.link-count-number-end.ensures))
+    first_all _ c.loop-number.number over.numbers c.loop-number.first c.loop-number.invariant (omega (arith, c.link_count-number-end.ensures))

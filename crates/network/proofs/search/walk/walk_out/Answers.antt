@@ -5,15 +5,15 @@ use Rattle.network.specs.Paths.{ground}
 use Rattle.network.proofs.Steps.{walk_more, walk_stops, walk_all}
 use Rattle.network.proofs.search.walk.walk_out.Goals as goal
 
-pub returns-in-default : goal.returns-in-default
-returns-in-default g c =
+pub returns-in_default : goal.returns-in_default
+returns-in_default g c =
     let k = g.C.Cost.kind in
     let a = c.args in
     let over = ground k a.net.now (may_use a.usable.now) in
     let rows = cell_at a.scratch.now.cells.items in
     let l = c.loop-step in
     record {
-      numbers = walk_stops over a.bound rows a.count (greedy over a.bound rows a.count a.from k.none) l.links l.step l.v l.paid (omega arith) l.invariant c.in-default.ensures;
+      numbers = walk_stops over a.bound rows a.count (greedy over a.bound rows a.count a.from k.none) l.links l.step l.v l.paid (omega arith) l.invariant c.in_default.ensures;
       formed = record { few = omega arith; eight = l.invariant.0; zeros = l.invariant.2 };
     }
 
@@ -24,10 +24,10 @@ loop-step-preserved g c =
     let over = ground k a.net.now (may_use a.usable.now) in
     let rows = cell_at a.scratch.now.cells.items in
     let l = c.loop-step in
-    walk_more over a.bound rows a.count (greedy over a.bound rows a.count a.from k.none) l.links l.step l.v c.onward-from-v.result c.in-Some.number l.paid c.join-paid.result (omega arith) (omega arith) l.invariant
+    walk_more over a.bound rows a.count (greedy over a.bound rows a.count a.from k.none) l.links l.step l.v c.onward_from-v.result c.in-Some.number l.paid c.join-paid.result (omega arith) (omega arith) l.invariant
     c.in-Some.ensures
     (c.join-paid.ensures ∙ ap (k.joined l.paid) c.price.ensures)
-    c.onward-from-v.ensures
+    c.onward_from-v.ensures
 
 pub returns : goal.returns
 returns g c =

@@ -7,7 +7,7 @@ pub loop-row-init : goal.loop-row-init
 loop-row-init c = gap_start c.args.rows.now c.args.run c.args.run.hours
 
 pub loop-row-preserved : goal.loop-row-preserved
-loop-row-preserved c = c.min-free.ensures ∙ gap_more c.args.rows.now c.args.run c.args.run.hours c.loop-row.row-index c.row-free-hours.result c.loop-row.free c.row-free-hours.ensures c.loop-row.invariant
+loop-row-preserved c = c.min-free.ensures ∙ gap_more c.args.rows.now c.args.run c.args.run.hours c.loop-row.row-index c.row_free_hours.result c.loop-row.free c.row_free_hours.ensures c.loop-row.invariant
 
 pub returns : goal.returns
 returns c =

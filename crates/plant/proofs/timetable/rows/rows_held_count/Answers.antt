@@ -10,9 +10,9 @@ loop-row-init c = (sym (total_empty _), omega arith)
 pub loop-row-preserved : goal.loop-row-preserved
 loop-row-preserved c =
     let F : ℕ → ℕ = λ i. cond (eqb (get_or c.args.rows.now i no_run).link c.args.link) (get_or c.args.rows.now i no_run).hours 0 in
-    let one : c.row-held-count.result ≡ F c.loop-row.row-index = c.row-held-count.ensures in
+    let one : c.row_held_count.result ≡ F c.loop-row.row-index = c.row_held_count.ensures in
     let inv : c.loop-row.count ≡ total c.loop-row.row-index F = c.loop-row.invariant.0 in
-    (omega (arith, one, inv, total_suc c.loop-row.row-index F), omega (arith, c.loop-row.invariant.1, c.row-held-count.type-inv))
+    (omega (arith, one, inv, total_suc c.loop-row.row-index F), omega (arith, c.loop-row.invariant.1, c.row_held_count.type_inv))
 
 pub returns : goal.returns
 returns c =

@@ -11,7 +11,7 @@ loop-row-init c = omega (arith, total_empty (λ k. min 1 (get_or c.args.rows.now
 pub loop-row-preserved : goal.loop-row-preserved
 loop-row-preserved c =
     let n : ℕ = (get_or c.args.rows.now c.loop-row.row-index no_run).hours in
-    let one : c.row-spare.result ≡ cond (eqb n 0) 1 0 = c.row-spare.ensures in
+    let one : c.row_spare.result ≡ cond (eqb n 0) 1 0 = c.row_spare.ensures in
     omega (arith, one, spare_or_used n, c.loop-row.invariant, total_suc c.loop-row.row-index (λ k. min 1 (get_or c.args.rows.now k no_run).hours))
 
 pub returns : goal.returns

@@ -8,6 +8,6 @@ use Rattle.plant.proofs.timetable.calls.TimetablePlant.held.Goals as goal
 pub returns : goal.returns
 returns c =
     let t = c.args.self.now in
-    c.rows-hold.ensures
+    c.rows_hold.ensures
     ∙ ap (λ xs. any (length xs) (λ i. on_cell (get_or xs i no_run) c.args.link c.args.channel c.args.hour)) c.deref.ensures.value
     ∙ sym (held_rows t.rows.items t.links t.channels (kept t) c.args.link c.args.channel c.args.hour)

@@ -8,6 +8,6 @@ use Rattle.plant.proofs.timetable.calls.TimetablePlant.held_count.Goals as goal
 pub returns : goal.returns
 returns c =
     let t = c.args.self.now in
-    c.rows-held-count.ensures
+    c.rows_held_count.ensures
     ∙ ap (λ xs. total (length xs) (λ i. row_held (get_or xs i no_run) c.args.link)) c.deref.ensures.value
     ∙ sym (rows_held t.rows.items t.links t.channels (kept t) c.args.link)

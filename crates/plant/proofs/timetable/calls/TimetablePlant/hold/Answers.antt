@@ -12,40 +12,40 @@ returns-then-not-fits c =
     let t = c.args.self.now in
     refused_hold (table_means t) c.args.run (tested t c.args.run c.size.result c.fits.result false c.size.ensures c.fits.ensures c.if-not-fits.true)
 
-pub free-hours-requires : goal.free-hours-requires
-free-hours-requires c = tested c.args.self.now c.args.run c.size.result c.fits.result true c.size.ensures c.fits.ensures c.if-not-fits.false
+pub free_hours-requires : goal.free_hours-requires
+free_hours-requires c = tested c.args.self.now c.args.run c.size.result c.fits.result true c.size.ensures c.fits.ensures c.if-not-fits.false
 
-pub returns-then-free-hours-run : goal.returns-then-free-hours-run
-returns-then-free-hours-run c =
+pub returns-then-free_hours-run : goal.returns-then-free_hours-run
+returns-then-free_hours-run c =
     let t = c.args.self.now in
     let r = c.args.run in
     let ok = tested t r c.size.result c.fits.result true c.size.ensures c.fits.ensures c.if-not-fits.false in
-    held_answer t.rows.items t.links t.channels (kept t) r ok (rows_met t.rows.items t.links t.channels r ok (omega (arith, c.free-hours.ensures, c.if-free-hours-run.true)))
+    held_answer t.rows.items t.links t.channels (kept t) r ok (rows_met t.rows.items t.links t.channels r ok (omega (arith, c.free_hours.ensures, c.if-free_hours-run.true)))
 
 pub returns-in-None : goal.returns-in-None
 returns-in-None c =
     let t = c.args.self.now in
     let r = c.args.run in
     let ok = tested t r c.size.result c.fits.result true c.size.ensures c.fits.ensures c.if-not-fits.false in
-    let free = rows_clear t.rows.items t.links t.channels r ok (omega (arith, c.free-hours.ensures, c.if-free-hours-run.false)) in
+    let free = rows_clear t.rows.items t.links t.channels r ok (omega (arith, c.free_hours.ensures, c.if-free_hours-run.false)) in
     full_answer t.rows.items t.links t.channels (kept t) r ok free (rw c.deref.ensures.value at c.in-None.ensures)
 
-pub invariant-of-self : goal.invariant-of-self
-invariant-of-self c =
+pub invariant_of-self : goal.invariant_of-self
+invariant_of-self c =
     let t = c.args.self.now in
     let r = c.args.run in
     let ok = tested t r c.size.result c.fits.result true c.size.ensures c.fits.ensures c.if-not-fits.false in
-    let free = rows_clear t.rows.items t.links t.channels r ok (omega (arith, c.free-hours.ensures, c.if-free-hours-run.false)) in
+    let free = rows_clear t.rows.items t.links t.channels r ok (omega (arith, c.free_hours.ensures, c.if-free_hours-run.false)) in
     let w = rw c.deref.ensures.value at c.in-Some.ensures in
     let new = put_kept t.rows.items t.links t.channels (kept t) r ok free c.in-Some.i w.0 w.1 in
-    (omega (arith, t.few, c.put-row.ensures.len), (∣ subst (λ xs. Kept xs t.links t.channels) (sym c.put-row.ensures.items) new ∣₁, tt))
+    record { few = omega (arith, t.few, c.put_row.ensures.len); kept = ∣ subst (λ xs. Kept xs t.links t.channels) (sym c.put_row.ensures.items) new ∣₁ }
 
 pub returns-in-Some : goal.returns-in-Some
 returns-in-Some c =
     let t = c.args.self.now in
     let r = c.args.run in
     let ok = tested t r c.size.result c.fits.result true c.size.ensures c.fits.ensures c.if-not-fits.false in
-    let free = rows_clear t.rows.items t.links t.channels r ok (omega (arith, c.free-hours.ensures, c.if-free-hours-run.false)) in
+    let free = rows_clear t.rows.items t.links t.channels r ok (omega (arith, c.free_hours.ensures, c.if-free_hours-run.false)) in
     let w = rw c.deref.ensures.value at c.in-Some.ensures in
     let done = put_answer t.rows.items t.links t.channels (kept t) r ok free c.in-Some.i w.0 w.1 in
-    record { answer = done.answer; after = ap (λ xs. tabled xs t.links t.channels) c.put-row.ensures.items ∙ done.after }
+    record { answer = done.answer; after = ap (λ xs. tabled xs t.links t.channels) c.put_row.ensures.items ∙ done.after }

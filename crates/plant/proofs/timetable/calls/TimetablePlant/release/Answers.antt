@@ -18,15 +18,15 @@ returns-in-None c =
     let ok = tested t r c.size.result c.fits.result true c.size.ensures c.fits.ensures c.if-not-fits.false in
     lost_answer t.rows.items t.links t.channels (kept t) r ok (no_row t.rows.items r (rw c.deref.ensures.value at c.in-None.ensures))
 
-pub invariant-of-self : goal.invariant-of-self
-invariant-of-self c =
+pub invariant_of-self : goal.invariant_of-self
+invariant_of-self c =
     let t = c.args.self.now in
     let r = c.args.run in
     let ok = tested t r c.size.result c.fits.result true c.size.ensures c.fits.ensures c.if-not-fits.false in
     let w = rw c.deref.ensures.value at c.in-Some.ensures in
     let there = (decides_run (get_or t.rows.items c.in-Some.i no_run) r).0 w.1 in
     let new = release_kept t.rows.items t.links t.channels (kept t) c.in-Some.i w.0 r ok there in
-    (omega (arith, t.few, c.put-row.ensures.len), (∣ subst (λ xs. Kept xs t.links t.channels) (sym c.put-row.ensures.items) new ∣₁, tt))
+    record { few = omega (arith, t.few, c.put_row.ensures.len); kept = ∣ subst (λ xs. Kept xs t.links t.channels) (sym c.put_row.ensures.items) new ∣₁ }
 
 pub returns-in-Some : goal.returns-in-Some
 returns-in-Some c =
@@ -36,4 +36,4 @@ returns-in-Some c =
     let w = rw c.deref.ensures.value at c.in-Some.ensures in
     let there = (decides_run (get_or t.rows.items c.in-Some.i no_run) r).0 w.1 in
     let done = cut_answer t.rows.items t.links t.channels (kept t) r ok c.in-Some.i w.0 there in
-    record { answer = done.answer; after = ap (λ xs. tabled xs t.links t.channels) c.put-row.ensures.items ∙ done.after }
+    record { answer = done.answer; after = ap (λ xs. tabled xs t.links t.channels) c.put_row.ensures.items ∙ done.after }

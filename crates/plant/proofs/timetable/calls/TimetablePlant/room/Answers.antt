@@ -6,4 +6,4 @@ use Rattle.plant.proofs.timetable.calls.TimetablePlant.room.Goals as goal
 
 pub returns : goal.returns
 returns c = let t = c.args.self.now in
-    c.spare-rows.ensures ∙ ap (λ xs. length xs - used xs) c.deref.ensures.value ∙ sym (rows_room t.rows.items t.links t.channels (kept t))
+    c.spare_rows.ensures ∙ ap (λ xs. length xs - used xs) c.deref.ensures.value ∙ sym (rows_room t.rows.items t.links t.channels (kept t))
