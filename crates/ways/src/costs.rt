@@ -9,7 +9,7 @@ use network::search::price;
 
 // The cost of a path: the costs of its links joined.
 pub(crate) fn path_cost<C: Cost>(net: &Network, path: Path) -> C
-    ensures { result ≡ path_cost kind net.now (path_numbers path) }
+    ensures { result ≡ path_cost C.kind net.now (path_numbers path) }
 {
     let mut cost = C::zero();
     for i in 0..path.count {

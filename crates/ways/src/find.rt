@@ -47,7 +47,7 @@ fn noted_way<C: Cost>(
     fit: Fit,
 ) -> Option<Way>
     requires { (length cells.now ≡ 697) × (channels ≤ 16) }
-    ensures way { option_map named result ≡ by_fit fit (noted kind net.now (may_use usable.now) cells.now channels order) }
+    ensures way { option_map named result ≡ by_fit fit (noted C.kind net.now (may_use usable.now) cells.now channels order) }
     ensures formed { IfSome result FormedWay }
 {
     match fit {
@@ -66,7 +66,7 @@ pub fn find_way<P: Plant, C: Cost>(
     order: Order,
     fit: Fit,
 ) -> Option<Way>
-    ensures way { option_map named result ≡ chosen_way fit (wanted kind net.now (may_use usable.now) (meaning plant.now) order) }
+    ensures way { option_map named result ≡ chosen_way fit (wanted C.kind net.now (may_use usable.now) (P.meaning plant.now) order) }
     ensures formed { IfSome result FormedWay }
 {
     if !hours_fit(order) {

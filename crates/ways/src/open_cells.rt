@@ -9,7 +9,7 @@ use plant::Plant;
 // Asks the plant whether the channel of the link is free in all hours of the order.
 fn ask<P: Plant>(plant: &P, order: Order, link: u8, channel: u8) -> bool
     requires { hours_fit order ≡ true }
-    ensures { result ≡ run_free (taken (meaning plant.now)) order link channel }
+    ensures { result ≡ run_free (taken (P.meaning plant.now)) order link channel }
 {
     let run = Run {
         link,
@@ -32,7 +32,7 @@ fn put(cells: &mut Vec<bool>, link: u8, channel: u8, free: bool)
 // Asks about every channel of one link.
 fn ask_link<P: Plant>(plant: &P, cells: &mut Vec<bool>, order: Order, channels: u8, link: u8)
     requires { (hours_fit order ≡ true) × ((vec_len cells.old ≡ 697) × ((link ≤ 40) × (channels ≤ 16))) }
-    ensures asked { RowAsked (run_free (taken (meaning plant.now)) order) cells.old.items cells.new.items link (channels + 1) }
+    ensures asked { RowAsked (run_free (taken (P.meaning plant.now)) order) cells.old.items cells.new.items link (channels + 1) }
     ensures len { vec_len cells.new ≡ 697 }
 {
     for channel in 1..channels + 1 {
@@ -50,7 +50,7 @@ pub(crate) fn ask_links<P: Plant>(
     links: u8,
 )
     requires { (hours_fit order ≡ true) × ((vec_len cells.old ≡ 697) × ((links ≤ 40) × (channels ≤ 16))) }
-    ensures asked { Asked (run_free (taken (meaning plant.now)) order) cells.new.items (links + 1) (channels + 1) }
+    ensures asked { Asked (run_free (taken (P.meaning plant.now)) order) cells.new.items (links + 1) (channels + 1) }
     ensures len { vec_len cells.new ≡ 697 }
 {
     for link in 1..links + 1 {

@@ -25,7 +25,7 @@ fn path_at<C: Cost>(
     a: u8,
 ) -> Option<Path>
     requires { (length cells.now ≡ 697) × (channels ≤ 16) }
-    ensures numbers { option_map path_numbers result ≡ path_at (noted kind net.now (may_use usable.now) cells.now channels order) a }
+    ensures numbers { option_map path_numbers result ≡ path_at (noted C.kind net.now (may_use usable.now) cells.now channels order) a }
     ensures formed { IfSome result Formed }
 {
     if !block_fits(channels, a, order.width) {
@@ -46,7 +46,7 @@ fn way_at<C: Cost>(
     a: u8,
 ) -> Option<Way>
     requires { (length cells.now ≡ 697) × (channels ≤ 16) }
-    ensures way { option_map named result ≡ way_at (noted kind net.now (may_use usable.now) cells.now channels order) a }
+    ensures way { option_map named result ≡ way_at (noted C.kind net.now (may_use usable.now) cells.now channels order) a }
     ensures formed { IfSome result FormedWay }
 {
     match path_at(net, usable, cells, rows, order, channels, a) {
@@ -65,7 +65,7 @@ pub(crate) fn first_fit<C: Cost>(
     channels: u8,
 ) -> Option<Way>
     requires { (length cells.now ≡ 697) × (channels ≤ 16) }
-    ensures way { option_map named result ≡ first_fit (noted kind net.now (may_use usable.now) cells.now channels order) channels }
+    ensures way { option_map named result ≡ first_fit (noted C.kind net.now (may_use usable.now) cells.now channels order) channels }
     ensures formed { IfSome result FormedWay }
 {
     for k in 0..channels {
@@ -105,7 +105,7 @@ pub(crate) fn best_fit<C: Cost>(
     channels: u8,
 ) -> Option<Way>
     requires { (length cells.now ≡ 697) × (channels ≤ 16) }
-    ensures way { option_map named result ≡ best_fit (noted kind net.now (may_use usable.now) cells.now channels order) channels }
+    ensures way { option_map named result ≡ best_fit (noted C.kind net.now (may_use usable.now) cells.now channels order) channels }
     ensures formed { IfSome result FormedWay }
 {
     let mut best = None;

@@ -7,11 +7,11 @@ pub loop-k-init : goal.loop-k-init
 loop-k-init c = any_empty (λ k. not (cell_at c.args.cells.now c.args.link (c.args.a + k)))
 
 pub loop-k-preserved : goal.loop-k-preserved
-loop-k-preserved c = any_next c.loop-k.k (λ k. not (cell_at c.args.cells.now c.args.link (c.args.a + k))) c.loop-k.invariant (ap not (sym c.if-not-cell-free.false ∙ c.cell-free.ensures))
+loop-k-preserved c = any_next c.loop-k.k (λ k. not (cell_at c.args.cells.now c.args.link (c.args.a + k))) c.loop-k.invariant (ap not (sym c.if-not-cell_free.false ∙ c.cell_free.ensures))
 
-pub returns-then-not-cell-free : goal.returns-then-not-cell-free
+pub returns-then-not-cell_free : goal.returns-then-not-cell_free
 unfolding block_free
-returns-then-not-cell-free c = ap not (any_found c.args.order.width (λ k. not (cell_at c.args.cells.now c.args.link (c.args.a + k))) c.loop-k.k c.loop-k-test.true (ap not (sym c.if-not-cell-free.true ∙ c.cell-free.ensures)))
+returns-then-not-cell_free c = ap not (any_found c.args.order.width (λ k. not (cell_at c.args.cells.now c.args.link (c.args.a + k))) c.loop-k.k c.loop-k-test.true (ap not (sym c.if-not-cell_free.true ∙ c.cell_free.ensures)))
 
 pub returns : goal.returns
 unfolding block_free

@@ -14,14 +14,14 @@ returns g c =
     let net = c.args.net.now in
     let may = may_use c.args.usable.now in
     let o = c.args.order in
-    let xs : List Bool = vec_items c.ask-links.new.cells in
+    let xs : List Bool = vec_items c.ask_links.new.cells in
     let cs : c.size-channels.result.channels ≡ m.channels = ap (λ s. s.channels) c.size-channels.ensures in
-    let links = c.link-count.ensures in
+    let links = c.link_count.ensures in
     record {
-      way = c.noted-way.ensures.way
+      way = c.noted_way.ensures.way
           ∙ ap (λ ys. by_fit c.args.fit (noted k net may ys c.size-channels.result.channels o)) c.deref.ensures.value
           ∙ ap (λ n. by_fit c.args.fit (noted k net may xs n o)) cs
-          ∙ fit_same k net m.channels o may may (cell_at xs) (run_free (taken m) o) (λ _ _ _. refl) (λ l ch a b p q. c.ask-links.ensures.asked l ch a (omega (arith, b, links)) p (omega (arith, q, cs))) c.args.fit
-          ∙ sym (cond-true (hours_fit o) _ _ (sym c.if-not-hours-fit.ensures));
-      formed = c.noted-way.ensures.formed;
+          ∙ fit_same k net m.channels o may may (cell_at xs) (run_free (taken m) o) (λ _ _ _. refl) (λ l ch a b p q. c.ask_links.ensures.asked l ch a (omega (arith, b, links)) p (omega (arith, q, cs))) c.args.fit
+          ∙ sym (cond-true (hours_fit o) _ _ (sym c.if-not-hours_fit.ensures));
+      formed = c.noted_way.ensures.formed;
     }

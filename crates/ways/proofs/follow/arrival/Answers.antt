@@ -4,11 +4,11 @@ use Rattle.ways.specs.Ways.{every_link}
 use Rattle.ways.proofs.Followed.{numbers_length, numbers_at, leads_more, leads_stops, leads_all}
 use Rattle.ways.proofs.follow.arrival.Goals as goal
 
-pub returns-in-default : goal.returns-in-default
-returns-in-default c =
+pub returns-in_default : goal.returns-in_default
+returns-in_default c =
     let p = c.args.path in
     let more : c.loop-i.i < length (path_numbers p) = omega (arith, numbers_length p c.requires, c.loop-i-test.true) in
-    leads_stops (crossing c.args.net.now every_link) c.args.from (path_numbers p) c.loop-i.i (get_or p.links c.loop-i.i 0) c.loop-i.v more (sym (numbers_at p c.loop-i.i c.loop-i-test.true)) c.in-default.ensures c.loop-i.invariant
+    leads_stops (crossing c.args.net.now every_link) c.args.from (path_numbers p) c.loop-i.i (get_or p.links c.loop-i.i 0) c.loop-i.v more (sym (numbers_at p c.loop-i.i c.loop-i-test.true)) c.in_default.ensures c.loop-i.invariant
 
 pub loop-i-preserved : goal.loop-i-preserved
 loop-i-preserved c =

@@ -8,5 +8,5 @@ pub returns : goal.returns
 returns c =
     let net = c.args.net.now in
     let p = c.args.path in
-    ap (λ b. b && (c.arrives.result && c.touches-once.result)) c.within-hops.ensures
-    ∙ path_counted (crossing net every_link) net.hops c.args.from c.args.to p c.arrives.result c.touches-once.result c.requires c.arrives.ensures c.touches-once.ensures
+    ap (λ b. b && (c.arrives.result && c.touches_once.result)) c.within_hops.ensures
+    ∙ path_counted (crossing net every_link) net.hops c.args.from c.args.to p c.arrives.result c.touches_once.result c.requires c.arrives.ensures c.touches_once.ensures

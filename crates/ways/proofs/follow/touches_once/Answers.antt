@@ -7,12 +7,12 @@ use Rattle.ways.proofs.follow.touches_once.Goals as goal
 pub loop-i-init : goal.loop-i-init
 loop-i-init c = noted_none (crossing c.args.net.now every_link) c.args.from (path_numbers c.args.path) _ refl
 
-pub returns-in-default : goal.returns-in-default
-returns-in-default c =
+pub returns-in_default : goal.returns-in_default
+returns-in_default c =
     let p = c.args.path in
     let l = c.loop-i in
     let more : l.i < length (path_numbers p) = omega (arith, numbers_length p c.requires, c.loop-i-test.true) in
-    noted_stops (crossing c.args.net.now every_link) c.args.from (path_numbers p) l.places l.i (get_or p.links l.i 0) l.v (omega (arith, c.loop-i-test.true, c.requires.few)) more (sym (numbers_at p l.i c.loop-i-test.true)) l.invariant c.in-default.ensures
+    noted_stops (crossing c.args.net.now every_link) c.args.from (path_numbers p) l.places l.i (get_or p.links l.i 0) l.v (omega (arith, c.loop-i-test.true, c.requires.few)) more (sym (numbers_at p l.i c.loop-i-test.true)) l.invariant c.in_default.ensures
 
 pub returns-then-among : goal.returns-then-among
 returns-then-among c =

@@ -16,4 +16,4 @@ returns-in-Some g c =
 pub loop-k-preserved : goal.loop-k-preserved
 loop-k-preserved g c =
     let w = noted g.C.Cost.kind c.args.net.now (may_use c.args.usable.now) c.args.cells.now c.args.channels c.args.order in
-    first_next w c.loop-k.k c.loop-k.invariant c.in-default.ensures.way
+    first_next w c.loop-k.k c.loop-k.invariant c.in_default.ensures.way

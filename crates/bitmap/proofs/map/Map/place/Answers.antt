@@ -7,13 +7,13 @@ pub returns-then-not-fits : goal.returns-then-not-fits
 returns-then-not-fits c = let m = c.args.self.now in
     words_fit m.words.items m.links m.channels c.args.run c.sizes.result c.sizes.ensures ∙ sym c.fits.ensures ∙ c.if-not-fits.true
 
-pub overflow-sub-result : goal.overflow-sub-result
-overflow-sub-result c = let m = c.args.self.now in
+pub overflow_sub-result : goal.overflow_sub-result
+overflow_sub-result c = let m = c.args.self.now in
     let w = (fits_parts m.links m.channels c.args.run (words_fit m.words.items m.links m.channels c.args.run c.sizes.result c.sizes.ensures ∙ sym c.fits.ensures ∙ c.if-not-fits.false)).0 in
     omega arith
 
-pub overflow-sub-result-2 : goal.overflow-sub-result-2
-overflow-sub-result-2 c = let m = c.args.self.now in
+pub overflow_sub-result-2 : goal.overflow_sub-result-2
+overflow_sub-result-2 c = let m = c.args.self.now in
     let w = (fits_parts m.links m.channels c.args.run (words_fit m.words.items m.links m.channels c.args.run c.sizes.result c.sizes.ensures ∙ sym c.fits.ensures ∙ c.if-not-fits.false)).0 in
     omega arith
 

@@ -3,12 +3,12 @@ use Rattle.hour_bits.proofs.Calls.{hold_done}
 use Rattle.hour_bits.proofs.Keeping.{kept_of}
 use Rattle.bitmap.proofs.map.Map.put.Goals as goal
 
-pub invariant-of-self : goal.invariant-of-self
-invariant-of-self c = let m = c.args.self.now in let ws = m.words.items in
-    let d = hold_done ws m.links m.channels (kept_of ws m.links m.channels m.kept) c.args.run c.args.base c.requires.place c.requires.free c.mark-run.new.words.items (omega arith) c.mark-run.ensures.marked in
-    (∣ d.kept ∣₁, tt)
+pub invariant_of-self : goal.invariant_of-self
+invariant_of-self c = let m = c.args.self.now in let ws = m.words.items in
+    let d = hold_done ws m.links m.channels (kept_of ws m.links m.channels m.kept) c.args.run c.args.base c.requires.place c.requires.free c.mark_run.new.words.items (omega arith) c.mark_run.ensures.marked in
+    record { kept = ∣ d.kept ∣₁ }
 
 pub returns : goal.returns
 returns c = let m = c.args.self.now in let ws = m.words.items in
-    let d = hold_done ws m.links m.channels (kept_of ws m.links m.channels m.kept) c.args.run c.args.base c.requires.place c.requires.free c.mark-run.new.words.items (omega arith) c.mark-run.ensures.marked in
+    let d = hold_done ws m.links m.channels (kept_of ws m.links m.channels m.kept) c.args.run c.args.base c.requires.place c.requires.free c.mark_run.new.words.items (omega arith) c.mark_run.ensures.marked in
     record { answer = d.answer; after = d.after; spare = d.spare }

@@ -3,13 +3,13 @@ use Rattle.std.proofs.lemmas.Bool.{le-leb, lt-leb}
 use Rattle.calendar.proofs.Made.{map_sizes, map_memory, map_made}
 use Rattle.bitmap.proofs.map.calls.refusal.Goals as goal
 
-pub returns-then-not-sizes-fit : goal.returns-then-not-sizes-fit
-returns-then-not-sizes-fit c = map_sizes c.args.links c.args.channels c.args.words (sym c.sizes-fit.ensures ∙ c.if-not-sizes-fit.true)
+pub returns-then-not-sizes_fit : goal.returns-then-not-sizes_fit
+returns-then-not-sizes_fit c = map_sizes c.args.links c.args.channels c.args.words (sym c.sizes_fit.ensures ∙ c.if-not-sizes_fit.true)
 
-pub returns-then-words-words-needed : goal.returns-then-words-words-needed
-returns-then-words-words-needed c =
-    map_memory c.args.links c.args.channels c.args.words (sym c.sizes-fit.ensures ∙ c.if-not-sizes-fit.false) (lt-leb (c.args.links * c.args.channels * 6) c.args.words (omega (arith, c.words-needed.ensures)))
+pub returns-then-words-words_needed : goal.returns-then-words-words_needed
+returns-then-words-words_needed c =
+    map_memory c.args.links c.args.channels c.args.words (sym c.sizes_fit.ensures ∙ c.if-not-sizes_fit.false) (lt-leb (c.args.links * c.args.channels * 6) c.args.words (omega (arith, c.words_needed.ensures)))
 
 pub returns : goal.returns
 returns c =
-    map_made c.args.links c.args.channels c.args.words (sym c.sizes-fit.ensures ∙ c.if-not-sizes-fit.false) (le-leb (c.args.links * c.args.channels * 6) c.args.words (omega (arith, c.words-needed.ensures)))
+    map_made c.args.links c.args.channels c.args.words (sym c.sizes_fit.ensures ∙ c.if-not-sizes_fit.false) (le-leb (c.args.links * c.args.channels * 6) c.args.words (omega (arith, c.words_needed.ensures)))

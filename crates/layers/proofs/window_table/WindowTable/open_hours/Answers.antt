@@ -6,7 +6,7 @@ pub loop-i-init : goal.loop-i-init
 loop-i-init c = sym (open_none c.args.self.now.windows c.args.run)
 
 pub loop-i-preserved : goal.loop-i-preserved
-loop-i-preserved c = c.min-open.ensures ∙ open_more c.args.self.now.windows c.loop-i.i c.args.run c.loop-i.open c.hours-before.result c.requires c.loop-i.invariant c.hours-before.ensures
+loop-i-preserved c = c.min-open.ensures ∙ open_more c.args.self.now.windows c.loop-i.i c.args.run c.loop-i.open c.hours_before.result c.requires c.loop-i.invariant c.hours_before.ensures
 
 pub returns : goal.returns
 returns c =

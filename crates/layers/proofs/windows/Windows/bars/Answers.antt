@@ -11,7 +11,7 @@ returns-then-fits g c =
     let m = g.P.Plant.meaning s.below in
     let r = c.args.run in
     let fit = sym (c.fits.ensures ∙ proper_size m r c.size.result c.size.ensures) ∙ c.if-fits.true in
-    bars_held ws n m r (ltb c.open-hours.result r.hours) (bars_fit ws n m r c.open-hours.result fit c.open-hours.ensures)
+    bars_held ws n m r (ltb c.open_hours.result r.hours) (bars_fit ws n m r c.open_hours.result fit c.open_hours.ensures)
 
 pub returns-else-fits : goal.returns-else-fits
 returns-else-fits g c =

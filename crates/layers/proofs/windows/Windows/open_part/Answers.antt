@@ -17,7 +17,7 @@ returns-then-open-eq0 g c =
     let m = g.P.Plant.meaning s.below in
     let r = c.args.run in
     let fit = sym (c.fits.ensures ∙ proper_size m r c.size.result c.size.ensures) ∙ c.if-not-fits.false in
-    sym (taken_shut s.table.windows s.table.count m r c.open-hours-open.result fit c.open-hours-open.ensures c.if-open-eq0.true)
+    sym (taken_shut s.table.windows s.table.count m r c.open_hours-open.result fit c.open_hours-open.ensures c.if-open-eq0.true)
 
 pub returns-else-open-eq0 : goal.returns-else-open-eq0
 returns-else-open-eq0 g c =
@@ -25,4 +25,4 @@ returns-else-open-eq0 g c =
     let m = g.P.Plant.meaning s.below in
     let r = c.args.run in
     let fit = sym (c.fits.ensures ∙ proper_size m r c.size.result c.size.ensures) ∙ c.if-not-fits.false in
-    first_windowed s.table.windows s.table.count m r c.open-hours-open.result fit c.open-hours-open.ensures (omega arith)
+    first_windowed s.table.windows s.table.count m r c.open_hours-open.result fit c.open_hours-open.ensures (omega arith)
