@@ -11,7 +11,7 @@ use Rattle.floor.specs.Laws.{FloorByLaw, FloorLaw, EmptyFloor}
 use Rattle.floor.specs.Plans.{Placed, on, Apart, Pairwise, Fits, Keeps, channels_of}
 use Rattle.floor.proofs.Taken.{width_on, link_bound}
 use Rattle.floor.proofs.Paths.{crossed_at}
-use Rattle.floor.proofs.Sums.{sumBy_mono, sumBy_zero, sumBy_map, total_term, total_columns, total_times, greatest_least, greatest_zero}
+use Rattle.floor.proofs.Sums.{sum_by_mono, sum_by_zero, sum_by_map, total_term, total_columns, total_times, greatest_least, greatest_zero}
 
 -- ---- rounding up
 
@@ -61,7 +61,7 @@ module _ (counts : ℕ → ℕ → Bool) (net : Network) (v h : ℕ) where
   part_bound ps i f a =
       ⊎_elim
       (λ (b : counted i ≡ true). rw b (link_bound net (suc i) h ps f a))
-      (λ (b : counted i ≡ false). rw b (omega (arith, sumBy_zero ps)))
+      (λ (b : counted i ≡ false). rw b (omega (arith, sum_by_zero ps)))
       (cases_Bool (counted i))
 
 both : {X : Type 0} (P Q : X → Type 0) (xs : List X) → All P xs → All Q xs → All (λ x. P x × Q x) xs
@@ -75,8 +75,8 @@ load_bound counts net v h ps f a keeps =
     let links = vec_len net.links in
     omega (
       arith,
-      sumBy_map (λ (p : Placed). p.order) (λ o. share o v h) ps,
-      sumBy_mono (λ p. Fits net p × Keeps counts p) (λ p. share p.order v h) (λ p. total links (part counts net v h p)) ps (both (Fits net) (Keeps counts) ps f keeps) (share_bound counts net v h),
+      sum_by_map (λ (p : Placed). p.order) (λ o. share o v h) ps,
+      sum_by_mono (λ p. Fits net p × Keeps counts p) (λ p. share p.order v h) (λ p. total links (part counts net v h p)) ps (both (Fits net) (Keeps counts) ps f keeps) (share_bound counts net v h),
       total_columns links (part counts net v h) ps (λ i. cond (counted counts net v h i) (channels_of ps) 0) (λ i _. part_bound counts net v h ps i f a),
       total_times links (counted counts net v h) (channels_of ps),
     )

@@ -1,4 +1,4 @@
--- Laws of `sumBy`, `total` and `greatest`.
+-- Laws of `sum_by`, `total` and `greatest`.
 use Rattle.std.proofs.Common.{◌≡◌, ℕ, zero, suc, ◌+◌, ◌*◌, ◌<◌, ◌≤◌, max, Bool, true, false, cond, ◌⊎◌, List, [], ◌∷◌, map, length, get_or, take, sum_by, sym, refl, ap, ◌∙◌, ⊎_elim, add-mul, one-mul, zero-mul, add-one, arith}
 use Rattle.std.specs.List.{AllByRecursion as All}
 use Rattle.std.proofs.lemmas.List.{take_all}
@@ -11,34 +11,34 @@ use Rattle.floor.specs.Floor.{greatest}
 
 -- ---- over a list
 
-pub sumBy_mono : {X : Type 0} (P : X → Type 0) (f g : X → ℕ) (xs : List X) → All P xs → ((x : X) → P x → f x ≤ g x) → sum_by f xs ≤ sum_by g xs
-sumBy_mono P f g [] h le = omega arith
-sumBy_mono P f g (x ∷ xs) h le =
-    omega (arith, sum_by-cons f x xs, sum_by-cons g x xs, sumBy_mono P f g xs h.1 le, le x h.0)
+pub sum_by_mono : {X : Type 0} (P : X → Type 0) (f g : X → ℕ) (xs : List X) → All P xs → ((x : X) → P x → f x ≤ g x) → sum_by f xs ≤ sum_by g xs
+sum_by_mono P f g [] h le = omega arith
+sum_by_mono P f g (x ∷ xs) h le =
+    omega (arith, sum_by-cons f x xs, sum_by-cons g x xs, sum_by_mono P f g xs h.1 le, le x h.0)
 
-pub sumBy_plus : {X : Type 0} (f g : X → ℕ) (xs : List X) → sum_by (λ x. f x + g x) xs ≡ sum_by f xs + sum_by g xs
-sumBy_plus f g [] = refl
-sumBy_plus f g (x ∷ xs) =
-    omega (arith, sum_by-cons f x xs, sum_by-cons g x xs, sum_by-cons (λ y. f y + g y) x xs, sumBy_plus f g xs)
+pub sum_by_plus : {X : Type 0} (f g : X → ℕ) (xs : List X) → sum_by (λ x. f x + g x) xs ≡ sum_by f xs + sum_by g xs
+sum_by_plus f g [] = refl
+sum_by_plus f g (x ∷ xs) =
+    omega (arith, sum_by-cons f x xs, sum_by-cons g x xs, sum_by-cons (λ y. f y + g y) x xs, sum_by_plus f g xs)
 
-pub sumBy_zero : {X : Type 0} (xs : List X) → sum_by (λ (x : X). 0) xs ≡ 0
-sumBy_zero [] = refl
-sumBy_zero (x ∷ xs) = omega (arith, sum_by-cons (λ y. 0) x xs, sumBy_zero xs)
+pub sum_by_zero : {X : Type 0} (xs : List X) → sum_by (λ (x : X). 0) xs ≡ 0
+sum_by_zero [] = refl
+sum_by_zero (x ∷ xs) = omega (arith, sum_by-cons (λ y. 0) x xs, sum_by_zero xs)
 
-pub sumBy_map : {X Y : Type 0} (h : X → Y) (f : Y → ℕ) (xs : List X) → sum_by f (map h xs) ≡ sum_by (λ x. f (h x)) xs
-sumBy_map h f [] = refl
-sumBy_map h f (x ∷ xs) =
-    omega (arith, sum_by-cons f (h x) (map h xs), sum_by-cons (λ y. f (h y)) x xs, sumBy_map h f xs)
+pub sum_by_map : {X Y : Type 0} (h : X → Y) (f : Y → ℕ) (xs : List X) → sum_by f (map h xs) ≡ sum_by (λ x. f (h x)) xs
+sum_by_map h f [] = refl
+sum_by_map h f (x ∷ xs) =
+    omega (arith, sum_by-cons f (h x) (map h xs), sum_by-cons (λ y. f (h y)) x xs, sum_by_map h f xs)
 
 -- a loop over the list ys, which is xs: one more, and all
-pub sumBy_step : {X : Type 0} (f : X → ℕ) (xs ys : List X) (i : ℕ) (x : X) (s r : ℕ) → ys ≡ xs → i < length ys → x ≡ get_or ys i x → s ≡ sum_by f (take i xs) → r ≡ f x → s + r ≡ sum_by f (take (i + 1) xs)
-sumBy_step f xs ys i x s r e l is inv here =
+pub sum_by_step : {X : Type 0} (f : X → ℕ) (xs ys : List X) (i : ℕ) (x : X) (s r : ℕ) → ys ≡ xs → i < length ys → x ≡ get_or ys i x → s ≡ sum_by f (take i xs) → r ≡ f x → s + r ≡ sum_by f (take (i + 1) xs)
+sum_by_step f xs ys i x s r e l is inv here =
     let inside : i < length xs = rw (← e) l in
     let same : x ≡ get_or xs i x = rw e at is in
     omega (arith, sum_by_more f xs i x inside, ap f same)
 
-pub sumBy_end : {X : Type 0} (f : X → ℕ) (xs ys : List X) (i : ℕ) (s : ℕ) → ys ≡ xs → length ys ≤ i → s ≡ sum_by f (take i xs) → s ≡ sum_by f xs
-sumBy_end f xs ys i s e l inv = inv ∙ ap (sum_by f) (take_all i xs (rw (← e) l))
+pub sum_by_end : {X : Type 0} (f : X → ℕ) (xs ys : List X) (i : ℕ) (s : ℕ) → ys ≡ xs → length ys ≤ i → s ≡ sum_by f (take i xs) → s ≡ sum_by f xs
+sum_by_end f xs ys i s e l inv = inv ∙ ap (sum_by f) (take_all i xs (rw (← e) l))
 
 -- ---- over the numbers below n
 
@@ -52,9 +52,9 @@ total_term (suc n) f k h =
 -- a table of numbers, summed by rows and bounded by columns
 pub total_columns : {X : Type 0} (n : ℕ) (g : X → ℕ → ℕ) (xs : List X) (c : ℕ → ℕ) → ((i : ℕ) → i < n → sum_by (λ x. g x i) xs ≤ c i) → sum_by (λ x. total n (g x)) xs ≤ total n c
 unfolding total
-total_columns zero g xs c h = omega (arith, sumBy_zero xs)
+total_columns zero g xs c h = omega (arith, sum_by_zero xs)
 total_columns (suc n) g xs c h =
-    omega (arith, sumBy_plus (λ x. g x n) (λ x. total n (g x)) xs, total_columns n g xs c (λ i l. h i (omega arith)), h n (omega arith))
+    omega (arith, sum_by_plus (λ x. g x n) (λ x. total n (g x)) xs, total_columns n g xs c (λ i l. h i (omega arith)), h n (omega arith))
 
 -- d once for each k that passes
 pub total_times : (n : ℕ) (b : ℕ → Bool) (d : ℕ) → total n (λ i. cond (b i) d 0) ≡ total n (λ i. num (b i)) * d

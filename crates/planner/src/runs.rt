@@ -22,7 +22,7 @@ fn is_own(own: Option<Row>, cell: Cell) -> bool
 
 // Why the cell is not free: it is closed, or held and not by the order itself.
 fn cell_fault<P: Plant>(plant: &P, own: Option<Row>, cell: Cell) -> Option<Refusal>
-    ensures { result ≡ cell_fault (meaning plant.now) (own_cells (option_map stood own)) cell.link cell.channel cell.hour }
+    ensures { result ≡ cell_fault (P.meaning plant.now) (own_cells (option_map stood own)) cell.link cell.channel cell.hour }
 {
     if plant.closed(cell.link, cell.channel, cell.hour) {
         return Some(Refusal::CellClosed(cell));
@@ -36,7 +36,7 @@ fn cell_fault<P: Plant>(plant: &P, own: Option<Row>, cell: Cell) -> Option<Refus
 // Whether every cell of the order's run on the channel of the link is free: one question to the plant in place of one
 // for each hour.
 fn is_free<P: Plant>(plant: &P, row: Row, link: u8, channel: u8) -> bool
-    ensures { result ≡ true → (own : ℕ → ℕ → ℕ → Bool) → run_fault (meaning plant.now) own (stood row) link channel row.order.hours ≡ None }
+    ensures { result ≡ true → (own : ℕ → ℕ → ℕ → Bool) → run_fault (P.meaning plant.now) own (stood row) link channel row.order.hours ≡ None }
 {
     plant.first_taken(row.run_on(link, channel)).is_none()
 }
@@ -44,7 +44,7 @@ fn is_free<P: Plant>(plant: &P, row: Row, link: u8, channel: u8) -> bool
 // The first cell of the order that is not free: by link in path order, then channel, then hour from the first.
 // A held cell of the order `own` counts as free.
 pub(crate) fn first_fault<P: Plant>(plant: &P, own: Option<Row>, row: Row) -> Option<Refusal>
-    ensures { result ≡ first_fault (meaning plant.now) (own_cells (option_map stood own)) (stood row) }
+    ensures { result ≡ first_fault (P.meaning plant.now) (own_cells (option_map stood own)) (stood row) }
 {
     let mut found = None;
     'links: for i in 0..row.way.path.count {
@@ -79,7 +79,7 @@ pub(crate) enum Deed {
 
 // Holds or releases the run. The planner has looked before, so that the plant does not refuse.
 fn do_run<P: Plant>(plant: &mut P, deed: Deed, run: Run)
-    ensures { meaning plant.new ≡ does deed (meaning plant.old) run }
+    ensures { P.meaning plant.new ≡ does deed (P.meaning plant.old) run }
 {
     match deed {
         Deed::Hold => {
@@ -93,7 +93,7 @@ fn do_run<P: Plant>(plant: &mut P, deed: Deed, run: Run)
 
 // Holds or releases the order's runs on link i of its path.
 fn do_link<P: Plant>(plant: &mut P, deed: Deed, row: Row, i: u8)
-    ensures { meaning plant.new ≡ on_link (does deed) (meaning plant.old) (stood row) i row.order.width }
+    ensures { P.meaning plant.new ≡ on_link (does deed) (P.meaning plant.old) (stood row) i row.order.width }
 {
     let link = row.link_at(i);
     for w in 0..row.order.width {
@@ -103,7 +103,7 @@ fn do_link<P: Plant>(plant: &mut P, deed: Deed, row: Row, i: u8)
 
 // Holds or releases every run of the order.
 pub(crate) fn do_runs<P: Plant>(plant: &mut P, deed: Deed, row: Row)
-    ensures { meaning plant.new ≡ each_run (does deed) (meaning plant.old) (stood row) }
+    ensures { P.meaning plant.new ≡ each_run (does deed) (P.meaning plant.old) (stood row) }
 {
     for i in 0..row.way.path.count {
         do_link(plant, deed, row, i);

@@ -4,4 +4,4 @@ use Rattle.examples.proofs.examples_stand.Goals as goal
 
 pub returns : goal.returns
 unfolding any total covers shares
-returns c = record { stand = refl; count = c.example-count.ensures }
+returns c = record { stand = refl; count = c.example_count.ensures }

@@ -11,5 +11,5 @@ loop-i-init c = (omega arith, sym (total_empty _))
 pub loop-i-preserved : goal.loop-i-preserved
 loop-i-preserved c = (
   omega arith,
-  total_number (λ l. num (touches c.args.net.now l c.args.v)) c.loop-i.i c.loop-i.links c.one-if-links.result c.loop-i.invariant.1 (c.one-if-links.ensures.is ∙ ap num c.touches.ensures),
+  total_number (λ l. num (touches c.args.net.now l c.args.v)) c.loop-i.i c.loop-i.links c.one_if-links.result c.loop-i.invariant.1 (c.one_if-links.ensures.is ∙ ap num c.touches.ensures),
 )

@@ -13,6 +13,6 @@ pub loop-i-preserved : goal.loop-i-preserved
 loop-i-preserved c =
     let xs = held (vec_items c.args.book.now.rows) in (
       omega arith,
-      total_number (λ x. num (has x xs)) c.loop-i.i c.loop-i.channels c.one-if-channels.result c.loop-i.invariant.1 (c.one-if-channels.ensures.is ∙ ap num c.holds.ensures),
+      total_number (λ x. num (has x xs)) c.loop-i.i c.loop-i.channels c.one_if-channels.result c.loop-i.invariant.1 (c.one_if-channels.ensures.is ∙ ap num c.holds.ensures),
       c.loop-i.invariant.2,
     )

@@ -14,11 +14,9 @@ returns-else-i-len c =
     let past : length rows ≤ c.args.i = search rules in
     removed_past rows c.args.i past
 
-pub invariant-of-self : goal.invariant-of-self
-invariant-of-self c = (
-  omega (arith, c.remove.ensures.len, c.args.self.now.few),
-  (
-    omega (arith, c.remove.ensures.capacity, c.args.self.now.space),
-    (apart_removed (vec_items c.args.self.now.rows) (vec_items c.remove.new.self) c.args.i c.args.self.now.apart c.remove.ensures.items, tt),
-  ),
-)
+pub invariant_of-self : goal.invariant_of-self
+invariant_of-self c = record {
+  few = omega (arith, c.remove.ensures.len, c.args.self.now.few);
+  space = omega (arith, c.remove.ensures.capacity, c.args.self.now.space);
+  apart = apart_removed (vec_items c.args.self.now.rows) (vec_items c.remove.new.self) c.args.i c.args.self.now.apart c.remove.ensures.items;
+}

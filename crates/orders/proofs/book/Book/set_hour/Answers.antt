@@ -9,13 +9,13 @@ returns-in-Some c =
     let there : c.args.i < length rows = search rules in
     hour_set rows c.args.i c.args.hour c.in-Some.row.now _ there (search rules) refl
 
-pub returns-in-default : goal.returns-in-default
-returns-in-default c =
+pub returns-in_default : goal.returns-in_default
+returns-in_default c =
     let rows = vec_items c.args.self.now.rows in
     let past : length rows ≤ c.args.i = search rules in
     hour_past rows c.args.i _ past
 
-pub invariant-of-self : goal.invariant-of-self
-invariant-of-self c =
+pub invariant_of-self : goal.invariant_of-self
+invariant_of-self c =
     let rows = vec_items c.args.self.now.rows in
-    (search rules, (search rules, (apart_set rows c.args.i c.in-Some.row.now _ c.args.self.now.apart (search rules) refl, tt)))
+    record { few = search rules; space = search rules; apart = apart_set rows c.args.i c.in-Some.row.now _ c.args.self.now.apart (search rules) refl }

@@ -9,13 +9,13 @@ use Rattle.orders.proofs.row.Row.crosses.Goals as goal
 pub loop-i-init : goal.loop-i-init
 loop-i-init c = any_empty _
 
-pub returns-then-link-at-link : goal.returns-then-link-at-link
-returns-then-link-at-link c =
-    any_found c.args.self.way.path.count (λ i. eqb (link_of (stood c.args.self) i) c.args.link) c.loop-i.i c.loop-i-test.true (sym (eq-eqb _ _ (sym c.link-at.ensures ∙ c.if-link-at-link.true)))
+pub returns-then-link_at-link : goal.returns-then-link_at-link
+returns-then-link_at-link c =
+    any_found c.args.self.way.path.count (λ i. eqb (link_of (stood c.args.self) i) c.args.link) c.loop-i.i c.loop-i-test.true (sym (eq-eqb _ _ (sym c.link_at.ensures ∙ c.if-link_at-link.true)))
     ∙ sym (crosses_any c.args.self c.args.link)
 
 pub loop-i-preserved : goal.loop-i-preserved
-loop-i-preserved c = any_next c.loop-i.i (λ i. eqb (link_of (stood c.args.self) i) c.args.link) c.loop-i.invariant (sym (ne_eqb _ _ (λ z. c.if-link-at-link.false (c.link-at.ensures ∙ z))))
+loop-i-preserved c = any_next c.loop-i.i (λ i. eqb (link_of (stood c.args.self) i) c.args.link) c.loop-i.invariant (sym (ne_eqb _ _ (λ z. c.if-link_at-link.false (c.link_at.ensures ∙ z))))
 
 pub returns : goal.returns
 returns c =

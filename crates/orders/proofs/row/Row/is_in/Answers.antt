@@ -4,4 +4,4 @@ use Rattle.orders.proofs.row.Row.is_in.Goals as goal
 
 pub returns : goal.returns
 unfolding in_cell takes
-returns c = rw (c.crosses.ensures, c.has-channel.ensures, c.covers-hour.ensures) refl
+returns c = rw (c.crosses.ensures, c.has_channel.ensures, c.covers_hour.ensures) refl
