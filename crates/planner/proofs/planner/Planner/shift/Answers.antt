@@ -11,10 +11,10 @@ returns g c =
     let old = c.index-old.result.now in
     let is = c.index-old.ensures in
     let week : c.args.hour < 168 = omega arith in
-    let free = c.in-default-first-fault.ensures in
+    let free = c.in_default-first_fault.ensures in
     record {
       answer = shift_says s.rules s.plant rows c.args.number c.args.hour c.in-Some.i found old is week free;
       rules = refl;
-      plant = shift_plant s.rules s.plant rows c.args.number c.args.hour c.in-Some.i found old is week free (g.P.Plant.meaning c.do-runs.new.plant) (g.P.Plant.meaning c.do-runs-2.new.plant) c.do-runs.ensures c.do-runs-2.ensures;
-      standing = shift_standing s.rules s.plant rows c.args.number c.args.hour c.in-Some.i found old is week free _ found.there c.set-hour.ensures;
+      plant = shift_plant s.rules s.plant rows c.args.number c.args.hour c.in-Some.i found old is week free (g.P.Plant.meaning c.do_runs.new.plant) (g.P.Plant.meaning c.do_runs-2.new.plant) c.do_runs.ensures c.do_runs-2.ensures;
+      standing = shift_standing s.rules s.plant rows c.args.number c.args.hour c.in-Some.i found old is week free _ found.there c.set_hour.ensures;
     }
