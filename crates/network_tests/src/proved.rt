@@ -20,7 +20,9 @@ fn network(heap: Global, listed: &ListNetwork) -> Result<Network, Fail> {
         let Ok(link) = Link::new(l.one as u32, l.two as u32, l.metres, l.loss) else {
             return Err(Fail::new("no link"));
         };
-        assert!(net.add(link).is_ok());
+        if net.add(link).is_err() {
+            return Err(Fail::new("a link was not added"));
+        }
     }
     Ok(net)
 }
