@@ -1,4 +1,4 @@
 use Rattle.network_bench.proofs.depth_first.+best_from.Given as goal
 
-abbrev pub decreases-best-from : goal.decreases-best-from
-decreases-best-from g l = l.left
+abbrev pub decreases-best_from : goal.decreases-best_from
+decreases-best_from g l = l.left
