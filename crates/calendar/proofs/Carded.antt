@@ -1,5 +1,5 @@
 -- A card order over a plant.
-use Rattle.std.proofs.Common.{◌≡◌, ℕ, suc, ◌+◌, ◌-◌, ◌<◌, ◌≤◌, min, true, false, cond, not, ◌&&◌, ◌||◌, eqb, leb, ◌⊎◌, List, get_or, Err, sym, refl, ap, ◌∙◌, ⊎_elim, arith}
+use Rattle.std.proofs.Common.{◌≡◌, ℕ, suc, ◌+◌, ◌-◌, ◌<◌, ◌≤◌, min, true, false, cond, not, ◌&&◌, ◌||◌, eqb, leb, List, get_or, Err, sym, refl, ap, ◌∙◌, ⊎_elim, arith}
 use mathlib.Core.Path.{fun_ext}
 use Rattle.std.proofs.lemmas.Bool.{cases_Bool, cases_eq, cases_lt, both_ways, le-leb, leb-true, and_parts, and_from, and_right, not-false, or_parts, ne_eqb, eq-eqb, cond-true, cond-false, cond_both}
 use Rattle.calendar.specs.Week.{any, total, later, covers}

@@ -1,5 +1,5 @@
 -- The first hour that is taken, under a card order.
-use Rattle.std.proofs.Common.{◌≡◌, ℕ, ◌-◌, ◌<◌, ◌≤◌, true, ◌||◌, List, Some, Option, sym, ap, ◌∙◌, ⊎_elim, arith}
+use Rattle.std.proofs.Common.{◌≡◌, ℕ, ◌<◌, ◌≤◌, true, ◌||◌, List, Some, Option, sym, ap, ◌∙◌, ⊎_elim, arith}
 use Rattle.std.proofs.lemmas.Bool.{cases_Bool, or_left}
 use Rattle.calendar.specs.Week.{later}
 use Rattle.calendar.specs.Meaning.{Meaning, Sound, is_held, proper, taken, free_hours, first_taken}

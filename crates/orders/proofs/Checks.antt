@@ -1,5 +1,5 @@
 -- What an accepted call tells of its order.
-use Rattle.std.proofs.Common.{◌≡◌, ℕ, ◌+◌, ◌*◌, ◌<◌, ◌≤◌, Bool, true, false, cond, not, ◌&&◌, eqb, ltb, leb, List, length, is_some, Some, None, vec_len, Option, sym, refl, ap, ◌∙◌, ⊎_elim, arith}
+use Rattle.std.proofs.Common.{◌≡◌, ℕ, ◌+◌, ◌<◌, ◌≤◌, Bool, true, false, cond, not, ◌&&◌, eqb, ltb, leb, List, length, is_some, Some, None, vec_len, Option, sym, refl, ap, ◌∙◌}
 use Rattle.std.proofs.lemmas.Bool.{both_ways, and_parts, and_from, not-true, not-false, ltb-false, leb-false, leb-true, le-leb}
 use Rattle.calendar.specs.Week.{any, later}
 use Rattle.calendar.specs.Meaning.{Meaning, room_of, taken}

@@ -1,18 +1,18 @@
 -- What the tie says of held cells, and of the cells that a search looks at.
-use Rattle.std.proofs.Common.{◌≡◌, ℕ, zero, suc, ◌+◌, ◌-◌, ◌*◌, ◌<◌, ◌≤◌, Bool, true, false, cond, not, ◌&&◌, ◌||◌, eqb, ltb, leb, List, [], ◌∷◌, sum_by, sym, refl, ap, ◌∙◌, ⊎_elim, suc-mul, zero-mul, arith}
+use Rattle.std.proofs.Common.{◌≡◌, ℕ, zero, suc, ◌+◌, ◌-◌, ◌*◌, ◌<◌, ◌≤◌, Bool, true, false, cond, not, ◌&&◌, ◌||◌, ltb, List, [], ◌∷◌, sum_by, sym, refl, ap, ◌∙◌, ⊎_elim, suc-mul, zero-mul, arith}
 use mathlib.Core.Path.{fun_ext}
 use Rattle.std.proofs.lemmas.List.Sums.{sum_by-cons}
 use Rattle.std.proofs.lemmas.Bool.Decides.{nat_tests}
 use Rattle.std.proofs.lemmas.Bool.{cases_Bool, lt-ltb, le-ltb, cond-true, cond-false}
-use Rattle.calendar.specs.Week.{any, total, covers}
+use Rattle.calendar.specs.Week.{total, covers}
 use Rattle.calendar.specs.Meaning.{Meaning, is_held, held_count, taken}
 use Rattle.calendar.proofs.Sums.{total_cong, total_zero, total_plus, total_split}
 use Rattle.calendar.proofs.Grown.{covers_count}
 use Rattle.network.specs.declared.network.Network.{Network}
 use Rattle.orders.specs.Lists.{taken_then}
-use Rattle.orders.specs.Standing.{Standing, num, crosses, block_has, takes, runs_in, in_cell, orders_in, cells_on}
+use Rattle.orders.specs.Standing.{Standing, num, crosses, block_has, takes, in_cell}
 use Rattle.orders.proofs.Tied.{fit, Fit, Tied}
-use Rattle.orders.proofs.Ties.{fit_parts, fit_of, num_one}
+use Rattle.orders.proofs.Ties.{fit_parts, fit_of}
 
 total_same : (n k : ℕ) (f : ℕ → ℕ) → ((i : ℕ) → i < n → f i ≡ k) → total n f ≡ n * k
 unfolding total

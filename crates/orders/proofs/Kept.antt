@@ -1,20 +1,20 @@
 -- The tie, kept by every call.
-use Rattle.std.proofs.Common.{◌≡◌, ℕ, ◌+◌, ◌*◌, ◌<◌, ◌≤◌, Bool, true, false, cond, not, ◌&&◌, ltb, leb, List, [], ◌∷◌, ◌++◌, length, is_some, Some, None, vec_len, sum_by, Option, sym, refl, ap, ◌∙◌, subst, ⊎_elim, arith}
-use Rattle.std.proofs.lemmas.Bool.{cases_Bool, both_ways, and_parts, and_from, not-false}
+use Rattle.std.proofs.Common.{◌≡◌, ℕ, ◌+◌, Bool, true, false, not, ◌&&◌, ltb, leb, List, [], ◌∷◌, ◌++◌, is_some, Some, None, vec_len, sum_by, Option, sym, refl, ap, ◌∙◌, subst, ⊎_elim, arith}
+use Rattle.std.proofs.lemmas.Bool.{cases_Bool, and_parts, and_from, not-false}
 use Rattle.calendar.specs.Meaning.{Meaning, Sound, taken}
 use Rattle.network.specs.Costs.{Laws}
 use Rattle.network.specs.Paths.{crossing, is_path, when_there}
 use Rattle.network.specs.declared.network.Network.{Network}
-use Rattle.ways.specs.Hours.{hours_fit, block_fits}
+use Rattle.ways.specs.Hours.{block_fits}
 use Rattle.ways.specs.Ways.{Named, every_link}
 use Rattle.orders.specs.Book.{stands, pick, strike, at_hour, moved}
-use Rattle.orders.specs.Calls.{Rules, refused, stands_so, order_of, along, given, way_for, width_fits, order_fault, if_room, book_answer, answer, was_accepted, effect, fed, plant_after, orders_after}
+use Rattle.orders.specs.Calls.{Rules, stands_so, order_of, along, given, way_for, width_fits, book_answer, answer, was_accepted, effect, fed, plant_after, orders_after}
 use Rattle.orders.specs.Lists.{taken_then}
 use Rattle.orders.specs.Runs.{first_fault, own_cells, hold_all, release_all}
 use Rattle.orders.specs.Standing.{Standing, num, takes, in_cell}
 use Rattle.orders.specs.declared.call.Call.{Call}
 use Rattle.orders.specs.declared.call.Call.TheVariants.{Book, Place, Cancel, Shift}
-use Rattle.orders.specs.declared.refusal.Refusal.TheVariants.{BadHours, NoWay, NotStanding}
+use Rattle.orders.specs.declared.refusal.Refusal.TheVariants.{BadHours, NotStanding}
 use Rattle.orders.proofs.Checks.{Takeable, passed, clear, placed, booked, no_refusal}
 use Rattle.orders.proofs.Counts.{taken_now}
 use Rattle.orders.proofs.Firsts.{some_fault}

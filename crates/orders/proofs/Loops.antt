@@ -1,5 +1,5 @@
 -- Holding or releasing the runs of an order one by one is the same as all at once.
-use Rattle.std.proofs.Common.{◌≡◌, ℕ, zero, suc, ◌+◌, ◌-◌, ◌*◌, ◌<◌, ◌≤◌, Bool, true, false, cond, ◌&&◌, ◌||◌, eqb, ltb, leb, length, sym, refl, ap, ◌∙◌, subst, mul-le-mul_right, suc-mul, zero-mul, arith}
+use Rattle.std.proofs.Common.{◌≡◌, ℕ, zero, suc, ◌+◌, ◌-◌, ◌*◌, ◌<◌, ◌≤◌, Bool, true, false, cond, ◌&&◌, ◌||◌, eqb, leb, length, sym, refl, ap, ◌∙◌, subst, mul-le-mul_right, suc-mul, zero-mul, arith}
 use mathlib.Core.Path.{fun_ext}
 use Rattle.std.proofs.lemmas.Bool.Decides.{nat_tests}
 use Rattle.std.proofs.lemmas.Bool.{and_from, or_parts, eq-eqb, ne_eqb, le-leb}
@@ -9,7 +9,6 @@ use Rattle.calendar.specs.declared.run.Run.{Run}
 use Rattle.calendar.proofs.Sums.{any_none, any_intro, any_or}
 use Rattle.calendar.proofs.Plants.{inside_from, inside_parts, proper_parts, meets_cong}
 use Rattle.calendar.proofs.Kept.{count_put}
-use Rattle.network.specs.Paths.{has}
 use Rattle.network.specs.declared.network.Network.{Network}
 use Rattle.orders.specs.Runs.{run_of, link_of, on_link, on_links, hold_all, release_all}
 use Rattle.orders.specs.Standing.{Standing, crosses, block_has, takes}

@@ -1,10 +1,10 @@
 -- Putting in and taking out the runs of one hour on many channels at once.
-use Rattle.std.proofs.Common.{◌≡◌, ℕ, zero, suc, ◌+◌, ◌*◌, ◌%◌, ◌<◌, ◌≤◌, Bool, true, false, cond, not, ◌&&◌, ◌||◌, eqb, ltb, leb, ◌⊎◌, sym, refl, ap, ◌∙◌, subst, inl, inr, ⊎_elim, arith}
+use Rattle.std.proofs.Common.{◌≡◌, ℕ, ◌+◌, ◌<◌, Bool, true, false, cond, ◌&&◌, ◌||◌, eqb, sym, refl, ap, ◌∙◌, subst, ⊎_elim, arith}
 use mathlib.Core.Path.{fun_ext}
 use Rattle.std.proofs.lemmas.Bool.{cases_Bool, cases_eq, cases_lt, both_ways, and_parts, and_from, and_left, and_right, or_cases, or_left, or_right, eqb-true, eq-eqb, ne_eqb, cond-true, cond-false}
-use Rattle.calendar.specs.Week.{any, total, later, covers}
+use Rattle.calendar.specs.Week.{any, later, covers}
 use Rattle.calendar.specs.Meaning.{Meaning, Sound, is_held}
-use Rattle.calendar.proofs.Sums.{bool_same, any_intro, any_elim, any_none, any_false, any_cong, any_empty}
+use Rattle.calendar.proofs.Sums.{bool_same, any_intro, any_elim, any_false, any_cong, any_empty}
 use Rattle.orders.specs.Standing.{num}
 
 -- the live runs g, with n hours for the run that starts in hour f on each channel that k takes

@@ -1,8 +1,8 @@
 -- The row of a number, by its place.
-use Rattle.std.proofs.Common.{◌≡◌, ℕ, zero, suc, ◌+◌, ◌<◌, ◌≤◌, Bool, true, false, cond, not, ◌&&◌, ◌||◌, eqb, List, [], ◌∷◌, ◌++◌, length, get_or, take, drop, set, sym, refl, ap, ◌∙◌, subst, arith}
+use Rattle.std.proofs.Common.{◌≡◌, ℕ, zero, suc, ◌+◌, ◌<◌, ◌≤◌, true, false, eqb, List, [], ◌∷◌, ◌++◌, length, get_or, take, set, sym, refl, ap, ◌∙◌, subst, arith}
 use Rattle.std.specs.List.{remove}
 use Rattle.std.proofs.lemmas.List.{take_more, take_all, take-map, length-map}
-use Rattle.std.proofs.lemmas.Bool.{or_parts, or_from, eq-eqb, ne_eqb, both_ways}
+use Rattle.std.proofs.lemmas.Bool.{or_parts, or_from, eq-eqb, ne_eqb}
 use Rattle.orders.specs.Book.{nobody, at_hour, stands, pick, strike, moved, Found}
 use Rattle.orders.specs.Standing.{Standing, stood, all_stood}
 use Rattle.orders.specs.declared.row.Row.{Row}

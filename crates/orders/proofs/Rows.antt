@@ -1,11 +1,10 @@
 -- Rows of the book as standing orders.
-use Rattle.std.proofs.Common.{◌≡◌, ℕ, zero, suc, ◌+◌, ◌<◌, ◌≤◌, Bool, true, false, ◌||◌, eqb, leb, List, [], ◌∷◌, ◌++◌, map, length, get_or, take, drop, set, sym, refl, ap, ◌∙◌, arith, length-take-le, get_or-take}
+use Rattle.std.proofs.Common.{◌≡◌, ℕ, zero, suc, ◌<◌, ◌≤◌, Bool, true, false, ◌||◌, eqb, leb, List, [], ◌∷◌, ◌++◌, map, length, get_or, take, drop, set, sym, refl, ap, ◌∙◌, arith, length-take-le, get_or-take}
 use lib.Seq.{map-set, set_out}
 use Rattle.std.specs.List.{remove}
 use Rattle.std.proofs.lemmas.List.{length-map, map_push, map-append, take-map, drop-map, take_all, drop_all, append-nil, get_or-map}
 use Rattle.std.proofs.lemmas.Bool.{cond-true, cond-false}
 use Rattle.calendar.specs.Week.{any}
-use Rattle.network.specs.Paths.{has, path_numbers}
 use Rattle.ways.proofs.Routes.{has_any}
 use Rattle.orders.specs.Book.{nobody, stands, at_hour, pushed}
 use Rattle.orders.specs.Runs.{link_of}

@@ -1,7 +1,6 @@
 -- What ties the plant now to the plant at the start and the orders that stand. Every part is about a sum over the
 -- orders, so that putting one in, taking one out and moving one are the same three steps for each.
-use Rattle.std.proofs.Common.{◌≡◌, ℕ, ◌+◌, ◌<◌, ◌≤◌, Bool, true, false, cond, not, ◌&&◌, ◌||◌, eqb, ltb, leb, List, length, get_or, vec_len, sum_by, refl, arith}
-use Rattle.std.proofs.lemmas.Bool.{and_parts, leb-true, ltb-true}
+use Rattle.std.proofs.Common.{◌≡◌, ℕ, ◌+◌, ◌<◌, ◌≤◌, Bool, true, false, cond, not, ◌&&◌, ◌||◌, eqb, leb, List, length, vec_len, sum_by}
 use Rattle.calendar.specs.Week.{any, later}
 use Rattle.calendar.specs.Meaning.{Meaning, is_held}
 use Rattle.network.specs.Paths.{crossing, is_path}

@@ -1,20 +1,19 @@
 -- The tie, kept by putting an order in and taking one out.
-use Rattle.std.proofs.Common.{◌≡◌, ℕ, zero, suc, ◌+◌, ◌-◌, ◌<◌, ◌≤◌, Bool, true, false, cond, not, ◌&&◌, ◌||◌, eqb, ltb, leb, List, [], ◌∷◌, length, get_or, vec_len, sum_by, sym, refl, ap, ◌∙◌, subst, ⊎_elim, arith}
+use Rattle.std.proofs.Common.{◌≡◌, ℕ, ◌+◌, ◌-◌, ◌<◌, ◌≤◌, Bool, true, false, not, ◌&&◌, ◌||◌, eqb, ltb, leb, List, [], ◌∷◌, length, get_or, vec_len, sum_by, sym, refl, ap, ◌∙◌, subst, ⊎_elim, arith}
 use mathlib.Core.Path.{fun_ext}
 use Rattle.std.proofs.lemmas.List.Sums.{sum_by-cons}
 use Rattle.std.proofs.lemmas.Bool.{cases_Bool, cases_lt, both_ways, and_parts, and_from, or_parts, eqb-true, eq-eqb, cond-true, leb-true, ltb-true}
 use Rattle.calendar.specs.Week.{any, later, covers}
 use Rattle.calendar.specs.Meaning.{Meaning, Sound, is_held, taken}
 use Rattle.calendar.proofs.Sums.{any_elim, any_none}
-use Rattle.network.specs.Paths.{crossing, is_path, has}
+use Rattle.network.specs.Paths.{crossing, is_path}
 use Rattle.network.specs.declared.network.Network.{Network}
 use Rattle.ways.specs.Hours.{hours_fit, block_fits}
 use Rattle.ways.specs.Ways.{every_link}
 use Rattle.ways.proofs.Routes.{path_parts, links_known, links_once, has_any}
 use Rattle.orders.specs.Calls.{width_fits}
-use Rattle.orders.specs.Runs.{link_of}
-use Rattle.orders.specs.Standing.{Standing, num, crosses, block_has, takes, runs_in, in_cell}
-use Rattle.orders.proofs.Masks.{mask, with_live, not_held, covers_first, live_grows, held_grows, held_shrinks, live_shrinks}
+use Rattle.orders.specs.Standing.{Standing, num, crosses, block_has, takes, in_cell}
+use Rattle.orders.proofs.Masks.{with_live, not_held, covers_first, live_grows, held_grows, held_shrinks, live_shrinks}
 use Rattle.orders.proofs.Tied.{starting, with_order, blocked, taken_but, fit, Fit, Tied}
 
 pub fit_of : (b : Bool) → num (not b) ≡ 0 → b ≡ true

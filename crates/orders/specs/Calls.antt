@@ -11,7 +11,7 @@
 --   orders_after g m es c  what stands then
 --   State C                rules, what the plant means, and what stands
 --   answers_in s c         what the call answers in a state; after s c is the state that it leaves
-use Rattle.std.specs.Prelude.{ℕ, ◌*◌, Bool, true, cond, not, ◌&&◌, ◌||◌, List, [], ◌∷◌, ◌++◌, length, Some, None, Ok, Err, vec_len, Option, Result, nat_le, nat_lt}
+use Rattle.std.specs.Prelude.{ℕ, ◌*◌, Bool, cond, not, ◌&&◌, List, [], ◌∷◌, ◌++◌, length, Some, None, Ok, Err, vec_len, Option, Result, nat_le, nat_lt}
 use Rattle.calendar.specs.Meaning.{Meaning, room_of, taken, accepted}
 use Rattle.network.specs.Costs.{Kind}
 use Rattle.network.specs.Limits.{two_places}

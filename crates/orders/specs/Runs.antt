@@ -11,7 +11,6 @@ use Rattle.calendar.specs.Meaning.{Meaning, is_held, after_hold, after_release}
 use Rattle.calendar.specs.declared.run.Run.{Run}
 use Rattle.network.specs.Paths.{when_there}
 use Rattle.orders.specs.Standing.{Standing, in_cell}
-use Rattle.orders.specs.declared.refusal.Cell.{Cell}
 use Rattle.orders.specs.declared.refusal.Refusal.{Refusal}
 use Rattle.orders.specs.declared.refusal.Refusal.TheVariants.{CellClosed, CellHeld}
 

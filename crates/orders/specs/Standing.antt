@@ -9,7 +9,7 @@
 --   in_cell e l c h     one of the order's runs covers the cell
 --   orders_in es l c h  how many of the orders are in the cell
 --   cells_on e l        how many cells of link l the order is in: width times hours, where it crosses the link
-use Rattle.std.specs.Prelude.{ℕ, ◌+◌, ◌*◌, Bool, cond, ◌&&◌, List, map, length, sum_by, nat_le, nat_lt}
+use Rattle.std.specs.Prelude.{ℕ, ◌+◌, ◌*◌, Bool, cond, ◌&&◌, List, map, sum_by, nat_le, nat_lt}
 use Rattle.calendar.specs.Week.{covers}
 use Rattle.network.specs.Paths.{has, path_numbers}
 use Rattle.ways.specs.declared.order.Order.{Order}

@@ -1,17 +1,16 @@
 -- What the code finds for book, in the words of the rules.
-use Rattle.std.proofs.Common.{◌≡◌, ℕ, ◌+◌, ◌<◌, ◌≤◌, Bool, true, cond, leb, List, Some, None, vec_len, Option, sym, refl, ap, ◌∙◌, subst, arith}
+use Rattle.std.proofs.Common.{◌≡◌, ℕ, ◌+◌, ◌<◌, ◌≤◌, Bool, true, cond, leb, List, Some, None, vec_len, sym, refl, ap, ◌∙◌, subst, arith}
 use Rattle.std.proofs.lemmas.Bool.{and_from, le-leb}
 use Rattle.calendar.specs.Meaning.{Meaning, Sound, room_of, taken}
 use Rattle.network.specs.Costs.{Laws}
 use Rattle.network.specs.Flags.{is_number}
-use Rattle.network.specs.declared.network.Network.{Network}
 use Rattle.ways.specs.Hours.{hours_fit, block_fits, run_free}
 use Rattle.ways.specs.Right.{AllowedWay}
 use Rattle.ways.specs.Ways.{Named, Wanted, every_link, wanted, chosen_way}
 use Rattle.ways.specs.declared.order.Order.{Order}
 use Rattle.ways.proofs.Fits.{fit_same, fits_parts}
 use Rattle.ways.proofs.Rightly.{way_found}
-use Rattle.orders.specs.Calls.{Rules, State, order_of, along, way_for, order_fault, runs_needed}
+use Rattle.orders.specs.Calls.{Rules, order_of, along, way_for, order_fault, runs_needed}
 use Rattle.orders.specs.Standing.{Standing}
 use Rattle.orders.specs.declared.call.Call.TheVariants.{Book}
 use Rattle.orders.specs.declared.refusal.Refusal.TheVariants.{NoWay, NoRoom}

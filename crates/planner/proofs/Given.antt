@@ -4,11 +4,10 @@ use Rattle.std.proofs.lemmas.Bool.{both_ways}
 use Rattle.calendar.specs.Meaning.{Meaning, Sound, room_of}
 use Rattle.ways.specs.Hours.{block_fits}
 use Rattle.ways.specs.Routes.{route_numbers, is_route}
-use Rattle.ways.specs.Ways.{Named}
 use Rattle.ways.specs.declared.order.Order.{Order}
 use Rattle.ways.specs.declared.route.Route.{Route}
 use Rattle.ways.proofs.Routes.{some_same}
-use Rattle.orders.specs.Calls.{Rules, State, order_of, along, given, order_fault, runs_needed}
+use Rattle.orders.specs.Calls.{Rules, order_of, along, given, order_fault, runs_needed}
 use Rattle.orders.specs.Runs.{first_fault, own_cells}
 use Rattle.orders.specs.Standing.{Standing}
 use Rattle.orders.specs.declared.call.Call.TheVariants.{Place}

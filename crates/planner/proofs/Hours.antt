@@ -1,5 +1,5 @@
 -- The hours of an order that passed the checks fit a byte.
-use Rattle.std.proofs.Common.{◌≡◌, ℕ, ◌<◌, ◌&&◌, ltb, leb, List, None, arith}
+use Rattle.std.proofs.Common.{◌≡◌, ◌<◌, ◌&&◌, ltb, leb, List, None, arith}
 use Rattle.std.proofs.lemmas.Bool.{and_parts, ltb-true, leb-true}
 use Rattle.calendar.specs.Meaning.{Meaning}
 use Rattle.orders.specs.Calls.{Rules, order_fault}

@@ -1,5 +1,5 @@
 -- The law from the tie.
-use Rattle.std.proofs.Common.{◌≡◌, ℕ, ◌+◌, ◌≤◌, true, false, not, List, [], ◌∷◌, sum_by, sym, refl, ap, ◌∙◌, arith}
+use Rattle.std.proofs.Common.{◌≡◌, ℕ, ◌≤◌, not, List, [], ◌∷◌, sum_by, ap, arith}
 use Rattle.std.specs.List.{AllByRecursion as All}
 use Rattle.std.proofs.lemmas.List.Sums.{sum_by-cons}
 use Rattle.calendar.specs.Meaning.{Meaning, is_held}
@@ -8,13 +8,13 @@ use Rattle.network.specs.declared.network.Network.{Network}
 use Rattle.ways.specs.Ways.{every_link}
 use Rattle.ways.proofs.Routes.{path_parts}
 use Rattle.orders.specs.Calls.{Rules}
-use Rattle.orders.specs.Standing.{Standing, num, in_cell, orders_in}
+use Rattle.orders.specs.Standing.{Standing, num, orders_in}
 use Rattle.orders.proofs.Counts.{held_sum}
-use Rattle.orders.proofs.Tied.{fit, Fit, Tied}
+use Rattle.orders.proofs.Tied.{fit, Tied}
 use Rattle.orders.proofs.Ties.{fit_of, fit_parts, num_one}
 use Rattle.floor.specs.Floor.{floor}
 use Rattle.floor.specs.Laws.{OnPath}
-use Rattle.floor.specs.Plans.{Placed, Plan, channels_of, own_plan, orders_of, reported}
+use Rattle.floor.specs.Plans.{Plan, own_plan, orders_of, reported}
 use Rattle.floor.specs.declared.report.Report.{Report}
 use Rattle.floor.proofs.Floors.{floor_law}
 use Rattle.floor.proofs.Owns.{own_plan_law}

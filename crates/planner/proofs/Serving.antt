@@ -1,13 +1,13 @@
 -- A list of calls, served one after the other.
-use Rattle.std.proofs.Common.{◌≡◌, ℕ, ◌+◌, ◌<◌, ◌≤◌, Bool, true, false, List, [], ◌∷◌, ◌++◌, map, length, get_or, take, drop, set, is_some, Some, None, Option, Result, sym, refl, ap, ◌∙◌, subst, arith}
+use Rattle.std.proofs.Common.{◌≡◌, ℕ, ◌+◌, ◌<◌, ◌≤◌, true, false, List, [], ◌∷◌, ◌++◌, map, length, get_or, take, drop, set, is_some, Some, None, Option, Result, sym, refl, ap, ◌∙◌, subst, arith}
 use lib.Seq.{map-set_same}
 use Rattle.std.specs.Option.{option_map}
 use Rattle.std.proofs.lemmas.Bool.{both_ways}
 use Rattle.std.proofs.lemmas.List.{take_more_set, drop-set-lt, drop_more, drop_all, take_all, append_assoc, append-nil, map_push}
-use Rattle.calendar.specs.Meaning.{Meaning, Sound, taken}
+use Rattle.calendar.specs.Meaning.{Meaning, Sound}
 use Rattle.network.specs.Costs.{Laws}
-use Rattle.orders.specs.Calls.{Rules, Said, State, said, answer, was_accepted, fed, plant_after, orders_after}
-use Rattle.orders.specs.Lists.{Done, all_answers, after_all, feed, fed_all, standing, taken_then}
+use Rattle.orders.specs.Calls.{Rules, Said, State, said, answer, was_accepted, plant_after, orders_after}
+use Rattle.orders.specs.Lists.{Done, all_answers, after_all, feed, fed_all, standing}
 use Rattle.orders.specs.Standing.{Standing}
 use Rattle.network.specs.Paths.{when_there, no_twice}
 use Rattle.ways.proofs.Routes.{some_same}

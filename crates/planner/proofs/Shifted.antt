@@ -1,8 +1,8 @@
 -- What an accepted shift answers and leaves.
-use Rattle.std.proofs.Common.{◌≡◌, ℕ, ◌<◌, Bool, true, cond, not, ltb, List, length, get_or, set, Some, None, Option, sym, refl, ap, ◌∙◌}
+use Rattle.std.proofs.Common.{◌≡◌, ℕ, ◌<◌, true, cond, not, ltb, List, length, get_or, set, Some, None, Option, sym, ap, ◌∙◌}
 use Rattle.std.proofs.lemmas.Bool.{cond-true, lt-ltb}
 use Rattle.calendar.specs.Meaning.{Meaning, taken}
-use Rattle.orders.specs.Book.{nobody, stands, pick, at_hour, moved, Found}
+use Rattle.orders.specs.Book.{nobody, pick, at_hour, Found}
 use Rattle.orders.specs.Calls.{Rules, refused, stands_so, unless, shift_answer, was_accepted, effect, fed, plant_after, orders_after}
 use Rattle.orders.specs.Runs.{hold_all, release_all, first_fault, own_cells}
 use Rattle.orders.specs.Standing.{Standing, stood, all_stood}

@@ -1,5 +1,5 @@
 -- What the checks of a call come to.
-use Rattle.std.proofs.Common.{◌≡◌, ℕ, ◌<◌, ◌≤◌, Bool, true, false, cond, not, ◌||◌, ltb, leb, List, [], ◌∷◌, ◌++◌, length, Some, None, Option, sym, refl, ap, ◌∙◌, ⊎_elim, arith}
+use Rattle.std.proofs.Common.{◌≡◌, ℕ, ◌<◌, ◌≤◌, Bool, true, false, cond, not, ◌||◌, ltb, leb, List, [], ◌∷◌, ◌++◌, length, Some, None, Option, sym, refl, ap, ◌∙◌, ⊎_elim}
 use Rattle.std.proofs.lemmas.Bool.{cases_Bool, cond-true, cond-false, le-ltb, lt-ltb, lt-leb, or_from}
 use Rattle.calendar.specs.Meaning.{Meaning, room_of, taken}
 use Rattle.network.specs.Paths.{when_there}
@@ -8,7 +8,7 @@ use Rattle.ways.specs.Routes.{is_route}
 use Rattle.ways.specs.Ways.{Named}
 use Rattle.ways.specs.declared.route.Route.{Route}
 use Rattle.orders.specs.Book.{stands, pushed}
-use Rattle.orders.specs.Calls.{Rules, State, Said, stands_so, refused, unless, order_of, along, given, way_for, order_fault, runs_needed, if_room, book_answer, place_answer, answer, was_accepted, effect, fed, plant_after, orders_after}
+use Rattle.orders.specs.Calls.{Rules, State, Said, stands_so, refused, unless, order_of, along, given, way_for, order_fault, runs_needed, if_room, book_answer, place_answer, answer, was_accepted, effect, fed}
 use Rattle.orders.specs.Runs.{hold_all, first_fault, own_cells}
 use Rattle.orders.specs.Standing.{Standing}
 use Rattle.orders.specs.declared.call.Call.{Call}

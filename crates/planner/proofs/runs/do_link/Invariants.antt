@@ -1,5 +1,5 @@
 use Rattle.std.proofs.Common.{◌≡◌}
-use Rattle.orders.specs.Runs.{link_of, on_link}
+use Rattle.orders.specs.Runs.{on_link}
 use Rattle.orders.specs.Standing.{stood}
 use Rattle.planner.specs.Deeds.{does}
 use Rattle.planner.proofs.runs.do_link.Given as goal

@@ -1,4 +1,4 @@
-use Rattle.std.proofs.Common.{◌<◌, length, vec_items, arith, rules}
+use Rattle.std.proofs.Common.{◌<◌, length, vec_items, rules}
 use Rattle.orders.proofs.Places.{found_row, not_yet, nowhere, none_before}
 use Rattle.orders.proofs.book.Book.find.Goals as goal
 

@@ -1,9 +1,9 @@
-use Rattle.std.proofs.Common.{◌≡◌, ◌<◌, ◌≤◌, Bool, false, ◌||◌, leb, length, vec_items, vec_len, sym, ap, ◌∙◌, arith, rules}
+use Rattle.std.proofs.Common.{◌≡◌, ◌||◌, leb, length, vec_items, vec_len, sym, ap, ◌∙◌, arith, rules}
 use Rattle.std.proofs.lemmas.Bool.{or_parts, leb-false}
 use Rattle.orders.specs.Book.{stands}
 use Rattle.orders.specs.Standing.{all_stood}
 use Rattle.orders.proofs.Numbers.{apart_push}
-use Rattle.orders.proofs.Rows.{stood_length, pushed_more, pushed_same}
+use Rattle.orders.proofs.Rows.{stood_length, pushed_more}
 use Rattle.orders.proofs.book.Book.push.Goals as goal
 
 pub push_reserved-requires : goal.push_reserved-requires

@@ -1,4 +1,4 @@
-use Rattle.std.proofs.Common.{◌≡◌, List, [], ◌∷◌, length, vec_items, ap, ◌∙◌, rules}
+use Rattle.std.proofs.Common.{◌≡◌, List, length, vec_items, ap, rules}
 use Rattle.orders.specs.Standing.{Standing}
 use Rattle.orders.proofs.Rows.{none_stood}
 use Rattle.planner.proofs.planner.Planner.new.Goals as goal

@@ -1,5 +1,4 @@
 use Rattle.std.proofs.Common.{◌≡◌}
-use Rattle.orders.specs.Calls.{Rules}
 use Rattle.planner.specs.Seen.{seen}
 use Rattle.planner.proofs.Serving.{Going}
 use Rattle.planner.proofs.planner.Planner.serve.Given as goal
