@@ -2,8 +2,8 @@ ghost use Rattle.hour_bits.specs.Tables.{Kept};
 
 use calendar::refusal::MakingRefusal;
 
+pub mod as_plant;
 mod calls;
-pub mod plant;
 mod questions;
 
 // A plant as bits, over words that were handed in: for each link and channel three words with the held hours, then

@@ -2,7 +2,7 @@
 -- The checker computes the left column and compares.
 --
 --   examples         the table
---   ExamplesStand   the two columns are the same
+--   ExamplesStand    the two columns are the same
 use Rattle.std.specs.Prelude.{ℕ, Bool, not, cond, List, [], ◌∷◌, ◌≡◌, eqb}
 use Rattle.calendar.specs.Week.{any, total, later, covers, shares}
 use Rattle.calendar.specs.Layers.{moved}

@@ -1,6 +1,6 @@
 -- Every plan has at least as many channels as the floor.
 use Rattle.std.proofs.Common.{◌≡◌, ℕ, suc, ◌+◌, ◌-◌, ◌*◌, ◌<◌, ◌≤◌, Bool, true, false, cond, ◌&&◌, eqb, List, [], ◌∷◌, map, vec_len, sum_by, refl, ⊎_elim, suc-mul, mul_comm, div-lt_iff_lt-mul, arith}
-use Rattle.std.specs.List.{AllByRecursion as All}
+use Rattle.std.specs.List.{AllByRecursion}
 use Rattle.std.proofs.lemmas.Bool.{cases_Bool, eqb-false, and_parts, and_from}
 use Rattle.calendar.specs.Week.{total}
 use Rattle.network.specs.Paths.{has}
@@ -56,7 +56,7 @@ module _ (counts : ℕ → ℕ → Bool) (net : Network) (v h : ℕ) where
       (λ (b : (ends_at p.order v && runs_in p.order h) ≡ false). rw b (omega arith))
       (cases_Bool (ends_at p.order v && runs_in p.order h))
 
-  part_bound : (ps : List Placed) (i : ℕ) → All (Fits net) ps → Pairwise Apart ps → sum_by (λ p. part p i) ps ≤ cond (counted i) (channels_of ps) 0
+  part_bound : (ps : List Placed) (i : ℕ) → AllByRecursion (Fits net) ps → Pairwise Apart ps → sum_by (λ p. part p i) ps ≤ cond (counted i) (channels_of ps) 0
   unfolding counted part
   part_bound ps i f a =
       ⊎_elim
@@ -64,12 +64,12 @@ module _ (counts : ℕ → ℕ → Bool) (net : Network) (v h : ℕ) where
       (λ (b : counted i ≡ false). rw b (omega (arith, sum_by_zero ps)))
       (cases_Bool (counted i))
 
-both : {X : Type 0} (P Q : X → Type 0) (xs : List X) → All P xs → All Q xs → All (λ x. P x × Q x) xs
+both : {X : Type 0} (P Q : X → Type 0) (xs : List X) → AllByRecursion P xs → AllByRecursion Q xs → AllByRecursion (λ x. P x × Q x) xs
 both P Q [] p q = tt
 both P Q (x ∷ xs) p q = ((p.0, q.0), both P Q xs p.1 q.1)
 
 -- the load at a place fits the channels of its links
-pub load_bound : (counts : ℕ → ℕ → Bool) (net : Network) (v h : ℕ) (ps : List Placed) → All (Fits net) ps → Pairwise Apart ps → All (Keeps counts) ps → load (map (λ p. p.order) ps) v h ≤ links_at counts net v h * channels_of ps
+pub load_bound : (counts : ℕ → ℕ → Bool) (net : Network) (v h : ℕ) (ps : List Placed) → AllByRecursion (Fits net) ps → Pairwise Apart ps → AllByRecursion (Keeps counts) ps → load (map (λ p. p.order) ps) v h ≤ links_at counts net v h * channels_of ps
 unfolding counted part
 load_bound counts net v h ps f a keeps =
     let links = vec_len net.links in
@@ -88,7 +88,7 @@ floor_by_law counts net orders ps plan keeps =
     greatest_least net.places _ (channels_of ps) (λ v _. greatest_least 168 (λ h. need counts net orders (suc v) h) (channels_of ps) (λ h _. rounded_least (load orders (suc v) h) (links_at counts net (suc v) h) (channels_of ps)
     (rw plan.all at (load_bound counts net (suc v) h ps plan.fit plan.apart keeps))))
 
-all_keep : (ps : List Placed) → All (Keeps always) ps
+all_keep : (ps : List Placed) → AllByRecursion (Keeps always) ps
 all_keep [] = tt
 all_keep (p ∷ ps) = ((λ l h _. refl), all_keep ps)
 

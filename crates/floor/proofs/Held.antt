@@ -1,6 +1,6 @@
 -- The channels that the rows of a book hold, one row after the other.
 use Rattle.std.proofs.Common.{◌≡◌, ℕ, ◌+◌, ◌<◌, ◌≤◌, Bool, false, ◌||◌, List, [], ◌∷◌, length, get_or, drop, sym, ap, ◌∙◌}
-use Rattle.std.specs.List.{AllByRecursion as All}
+use Rattle.std.specs.List.{AllByRecursion}
 use Rattle.std.proofs.ByRecursion.{All-append}
 use Rattle.std.proofs.lemmas.List.{at_drop_more, at_drop_all}
 use Rattle.calendar.specs.Week.{total}
@@ -34,7 +34,7 @@ module _ (rows ys : List Row) (e : ys ≡ rows) (c i : ℕ) where
   held_end l = at_drop_all (λ zs. has c (held zs)) rows i (rw (← e) l)
 
 -- every block lies within channels 1 to 16
-held_within : (rows : List Row) → All (λ x. (1 ≤ x) × (x ≤ 16)) (held rows)
+held_within : (rows : List Row) → AllByRecursion (λ x. (1 ≤ x) × (x ≤ 16)) (held rows)
 held_within [] = tt
 held_within (r ∷ rows) =
     All-append (λ x. (1 ≤ x) × (x ≤ 16)) (own (stood r)).channels (held rows) (counting_within r.way.channel r.order.width 16 r.block.0 r.block.1) (held_within rows)

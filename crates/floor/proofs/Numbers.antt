@@ -1,6 +1,6 @@
 -- Numbers in a list: how often one stands there, and how many different ones there are.
 use Rattle.std.proofs.Common.{◌≡◌, ℕ, zero, suc, ◌+◌, ◌<◌, ◌≤◌, Bool, true, false, cond, not, ◌||◌, eqb, ltb, leb, List, [], ◌∷◌, ◌++◌, length, count_by, filter, sym, refl, ◌∙◌, ⊎_elim, arith}
-use Rattle.std.specs.List.{range_with_len, AllByRecursion as All}
+use Rattle.std.specs.List.{range_with_len, AllByRecursion}
 use Rattle.std.proofs.lemmas.List.Filters.{length-filter_both}
 use Rattle.std.proofs.lemmas.List.Sums.{sum_by-cons, sum_by-append, length-filter}
 use Rattle.std.proofs.lemmas.Bool.{cases_Bool, eqb-true, eqb-false, eq-eqb, ne_eqb, and_left, lt-leb, cond-true, cond-false, false≢true}
@@ -108,7 +108,7 @@ once_counting a zero = refl
 once_counting a (suc w) =
     cond-false (has a (range_with_len (a + 1) w)) false (no_twice (range_with_len (a + 1) w)) (has_counting a (a + 1) w ∙ and_left (leb (a + 1) a) (ltb a (a + 1 + w)) (lt-leb (a + 1) a (omega arith))) ∙ once_counting (a + 1) w
 
-pub counting_within : (a w m : ℕ) → 1 ≤ a → a + w ≤ m + 1 → All (λ x. (1 ≤ x) × (x ≤ m)) (range_with_len a w)
+pub counting_within : (a w m : ℕ) → 1 ≤ a → a + w ≤ m + 1 → AllByRecursion (λ x. (1 ≤ x) × (x ≤ m)) (range_with_len a w)
 counting_within a zero m l h = tt
 counting_within a (suc w) m l h = ((l, omega arith), counting_within (a + 1) w m (omega arith) (omega arith))
 
@@ -133,6 +133,6 @@ tested_more : (x m : ℕ) (xs : List ℕ) → 1 ≤ x → x ≤ m → total m (t
 tested_more zero m xs l h = absurd (omega arith)
 tested_more (suc k) m xs l h = tested_cons k m xs h
 
-pub different_tested : (m : ℕ) (xs : List ℕ) → All (λ x. (1 ≤ x) × (x ≤ m)) xs → different xs ≡ total m (tested xs)
+pub different_tested : (m : ℕ) (xs : List ℕ) → AllByRecursion (λ x. (1 ≤ x) × (x ≤ m)) xs → different xs ≡ total m (tested xs)
 different_tested m [] h = sym (total_zero m (tested []) (λ k _. refl))
 different_tested m (x ∷ xs) h = omega (arith, tested_more x m xs h.0.0 h.0.1, different_tested m xs h.1)

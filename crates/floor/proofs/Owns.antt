@@ -1,6 +1,6 @@
 -- Orders that stand on their own ways are a plan.
 use Rattle.std.proofs.Common.{◌≡◌, ℕ, ◌+◌, ◌≤◌, true, ◌&&◌, List, [], ◌∷◌, map, sym, refl, ap, ◌∙◌, arith}
-use Rattle.std.specs.List.{AllByRecursion as All}
+use Rattle.std.specs.List.{AllByRecursion}
 use Rattle.std.proofs.lemmas.List.FromFn.{length-range_with_len}
 use Rattle.std.proofs.lemmas.List.Sums.{sum_by-cons}
 use Rattle.std.proofs.lemmas.Bool.{and_parts, and_from}
@@ -28,7 +28,7 @@ orders_in_cons : (e : Standing) (es : List Standing) (l c h : ℕ) → orders_in
 orders_in_cons e es l c h = omega (arith, sum_by-cons (λ e. num (in_cell e l c h)) e es)
 
 -- an order is apart from others of which none is in a cell of its own
-one_apart : (e : Standing) (es : List Standing) → ((l c h : ℕ) → in_cell e l c h ≡ true → orders_in es l c h ≡ 0) → All (Apart (own e)) (own_plan es)
+one_apart : (e : Standing) (es : List Standing) → ((l c h : ℕ) → in_cell e l c h ≡ true → orders_in es l c h ≡ 0) → AllByRecursion (Apart (own e)) (own_plan es)
 one_apart e [] none = tt
 one_apart e (f ∷ es) none = (
   (λ l c h p q. let z = none l c h (own_cell e l c h p) in let m = orders_in_more f es l c h (own_cell f l c h q) in omega arith),
@@ -46,7 +46,7 @@ same_orders : (es : List Standing) → map (λ (p : Placed). p.order) (own_plan 
 same_orders [] = refl
 same_orders (e ∷ es) = ap (λ os. e.order ∷ os) (same_orders es)
 
-all_fit : (net : Network) (es : List Standing) → All (OnPath net) es → All (Fits net) (own_plan es)
+all_fit : (net : Network) (es : List Standing) → AllByRecursion (OnPath net) es → AllByRecursion (Fits net) (own_plan es)
 all_fit net [] h = tt
 all_fit net (e ∷ es) h =
     (record { joins = h.0; wide = length-range_with_len e.channel e.order.width; once = once_counting e.channel e.order.width }, all_fit net es h.1)

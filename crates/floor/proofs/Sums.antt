@@ -1,6 +1,6 @@
 -- Laws of `sum_by`, `total` and `greatest`.
 use Rattle.std.proofs.Common.{◌≡◌, ℕ, zero, suc, ◌+◌, ◌*◌, ◌<◌, ◌≤◌, max, Bool, true, false, cond, List, [], ◌∷◌, map, length, get_or, take, sum_by, sym, refl, ap, ◌∙◌, ⊎_elim, add-mul, one-mul, zero-mul, add-one, arith}
-use Rattle.std.specs.List.{AllByRecursion as All}
+use Rattle.std.specs.List.{AllByRecursion}
 use Rattle.std.proofs.lemmas.List.{take_all}
 use Rattle.std.proofs.lemmas.List.Sums.{sum_by-cons, sum_by_more}
 use Rattle.std.proofs.lemmas.Bool.{cases_lt}
@@ -11,7 +11,7 @@ use Rattle.floor.specs.Floor.{greatest}
 
 -- ---- over a list
 
-pub sum_by_mono : {X : Type 0} (P : X → Type 0) (f g : X → ℕ) (xs : List X) → All P xs → ((x : X) → P x → f x ≤ g x) → sum_by f xs ≤ sum_by g xs
+pub sum_by_mono : {X : Type 0} (P : X → Type 0) (f g : X → ℕ) (xs : List X) → AllByRecursion P xs → ((x : X) → P x → f x ≤ g x) → sum_by f xs ≤ sum_by g xs
 sum_by_mono P f g [] h le = omega arith
 sum_by_mono P f g (x ∷ xs) h le =
     omega (arith, sum_by-cons f x xs, sum_by-cons g x xs, sum_by_mono P f g xs h.1 le, le x h.0)

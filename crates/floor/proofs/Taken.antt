@@ -1,6 +1,6 @@
 -- On one link in one hour a plan takes each of its channels once at most.
 use Rattle.std.proofs.Common.{◌≡◌, ℕ, ◌≤◌, Bool, true, false, cond, List, [], ◌∷◌, length, sum_by, refl, ⊎_elim, arith, length-append}
-use Rattle.std.specs.List.{flat_map, AllByRecursion as All}
+use Rattle.std.specs.List.{flat_map, AllByRecursion}
 use Rattle.std.proofs.lemmas.List.Sums.{sum_by-cons}
 use Rattle.std.proofs.lemmas.Bool.{cases_Bool, and_parts}
 use Rattle.network.specs.Paths.{has}
@@ -31,7 +31,7 @@ taken_once net l h c p f =
     (λ (b : on p l h ≡ false). rw b (omega arith))
     (cases_Bool (on p l h))
 
-others_none : (l h c : ℕ) (p : Placed) (qs : List Placed) → takes_cell p l c h ≡ true → All (Apart p) qs → times c (flat_map (taken l h) qs) ≡ 0
+others_none : (l h c : ℕ) (p : Placed) (qs : List Placed) → takes_cell p l c h ≡ true → AllByRecursion (Apart p) qs → times c (flat_map (taken l h) qs) ≡ 0
 others_none l h c p [] e a = refl
 others_none l h c p (q ∷ qs) e a =
     let not_there : takes_cell q l c h ≡ false = ⊎_elim (λ (b : takes_cell q l c h ≡ true). absurd (a.0 l c h e b)) (λ (b : takes_cell q l c h ≡ false). b) (cases_Bool (takes_cell q l c h)) in
@@ -42,7 +42,7 @@ num_most true = omega arith
 num_most false = omega arith
 
 -- a channel is taken once at most, and only if it is one of the plan's
-cell_once : (net : Network) (l h c : ℕ) (ps : List Placed) → All (Fits net) ps → Pairwise Apart ps → times c (flat_map (taken l h) ps) ≤ num (has c (channels_in ps))
+cell_once : (net : Network) (l h c : ℕ) (ps : List Placed) → AllByRecursion (Fits net) ps → Pairwise Apart ps → times c (flat_map (taken l h) ps) ≤ num (has c (channels_in ps))
 cell_once net l h c [] f a = omega arith
 cell_once net l h c (p ∷ ps) f a =
     let split = times_append c (taken l h p) (flat_map (taken l h) ps) in
@@ -62,12 +62,12 @@ cell_once net l h c (p ∷ ps) f a =
     (cases_Bool (has c p.channels)))
     (cases_Bool (takes_cell p l c h)))
 
-taken_length : (net : Network) (l h : ℕ) (ps : List Placed) → All (Fits net) ps → length (flat_map (taken l h) ps) ≡ sum_by (width_on l h) ps
+taken_length : (net : Network) (l h : ℕ) (ps : List Placed) → AllByRecursion (Fits net) ps → length (flat_map (taken l h) ps) ≡ sum_by (width_on l h) ps
 taken_length net l h [] f = refl
 taken_length net l h (p ∷ ps) f =
     let here : length (taken l h p) ≡ width_on l h p = ⊎_elim (λ (b : on p l h ≡ true). rw b f.0.wide) (λ (b : on p l h ≡ false). rw b refl) (cases_Bool (on p l h)) in
     omega (arith, length-append (taken l h p) (flat_map (taken l h) ps), here, taken_length net l h ps f.1, sum_by-cons (width_on l h) p ps)
 
 -- the widths on one link in one hour come to no more than the plan's channels
-pub link_bound : (net : Network) (l h : ℕ) (ps : List Placed) → All (Fits net) ps → Pairwise Apart ps → sum_by (width_on l h) ps ≤ channels_of ps
+pub link_bound : (net : Network) (l h : ℕ) (ps : List Placed) → AllByRecursion (Fits net) ps → Pairwise Apart ps → sum_by (width_on l h) ps ≤ channels_of ps
 link_bound net l h ps f a = rw (← taken_length net l h ps f) (pigeonhole (channels_in ps) (flat_map (taken l h) ps) (λ c. cell_once net l h c ps f a))

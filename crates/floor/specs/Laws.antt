@@ -1,12 +1,12 @@
 -- What is proved of the floor.
 --
---   FloorByLaw     every plan that keeps to the links that count has at least as many channels as the floor over them
+--   FloorByLaw      every plan that keeps to the links that count has at least as many channels as the floor over them
 --   FloorLaw        every plan has at least as many channels as the floor
 --   EmptyFloor      where there are no orders the floor is 0
 --   OnPath net e    the path of an order that stands joins the order's ends
---   OwnPlanLaw     orders whose paths join their ends and of which no two are in one cell are a plan as they stand
+--   OwnPlanLaw      orders whose paths join their ends and of which no two are in one cell are a plan as they stand
 use Rattle.std.specs.Prelude.{◌≡◌, ℕ, ◌≤◌, Bool, List, []}
-use Rattle.std.specs.List.{AllByRecursion as All}
+use Rattle.std.specs.List.{AllByRecursion}
 use Rattle.network.specs.declared.network.Network.{Network}
 use Rattle.ways.specs.declared.order.Order.{Order}
 use Rattle.orders.specs.Standing.{Standing, orders_in}
@@ -17,7 +17,7 @@ use Rattle.floor.specs.Plans.{Joins, Placed, Plan, Keeps, channels_of, own_plan,
 abbrev pub FloorByLaw : Type 0
 FloorByLaw =
     (counts : ℕ → ℕ → Bool) (net : Network) (orders : List Order) (plan : List Placed) →
-    Plan net orders plan → All (Keeps counts) plan → floor_by counts net orders ≤ channels_of plan
+    Plan net orders plan → AllByRecursion (Keeps counts) plan → floor_by counts net orders ≤ channels_of plan
 
 -- every plan of the orders has at least as many channels as the floor
 abbrev pub FloorLaw : Type 0
@@ -35,4 +35,4 @@ OnPath net e = Joins net e.order e.path
 abbrev pub OwnPlanLaw : Type 0
 OwnPlanLaw =
     (net : Network) (es : List Standing) →
-    All (OnPath net) es → ((l c h : ℕ) → orders_in es l c h ≤ 1) → Plan net (orders_of es) (own_plan es)
+    AllByRecursion (OnPath net) es → ((l c h : ℕ) → orders_in es l c h ≤ 1) → Plan net (orders_of es) (own_plan es)

@@ -20,7 +20,7 @@
 --   channel_hours es        the cells that all of them hold
 --   reported net es         the four figures of a report
 use Rattle.std.specs.Prelude.{◌≡◌, ℕ, ◌+◌, ◌*◌, ◌≤◌, Bool, true, cond, ◌&&◌, List, [], ◌∷◌, map, length, Some, sum_by, ◌≢◌}
-use Rattle.std.specs.List.{range_with_len, flat_map, AllByRecursion as All}
+use Rattle.std.specs.List.{range_with_len, flat_map, AllByRecursion}
 use Rattle.network.specs.Paths.{crossing, leads, touched, has, no_twice}
 use Rattle.network.specs.declared.network.Network.{Network}
 use Rattle.ways.specs.declared.order.Order.{Order}
@@ -56,7 +56,7 @@ Apart p q = (l c h : ℕ) → takes_cell p l c h ≡ true → takes_cell q l c h
 -- R holds of any two of the list
 abbrev pub Pairwise : {X : Type 0} → (X → X → Type 0) → List X → Type 0
 Pairwise R [] = Unit {0}
-Pairwise R (x ∷ xs) = All (R x) xs × Pairwise R xs
+Pairwise R (x ∷ xs) = AllByRecursion (R x) xs × Pairwise R xs
 
 -- the path joins the order's ends, and there are as many different channels as the order is wide
 pub record Fits (net : Network) (p : Placed) : Type 0 where
@@ -67,7 +67,7 @@ pub record Fits (net : Network) (p : Placed) : Type 0 where
 -- the plan places exactly these orders; each fits, and any two are apart
 pub record Plan (net : Network) (orders : List Order) (plan : List Placed) : Type 0 where
   pub all : map (λ p. p.order) plan ≡ orders
-  pub fit : All (Fits net) plan
+  pub fit : AllByRecursion (Fits net) plan
   pub apart : Pairwise Apart plan
 
 -- how many different numbers stand in the list: each is counted where it stands last

@@ -12,7 +12,7 @@
 --   goes_on held start h     a run that started at an earlier hour covers hour h
 --   lasts held start f       how many hours a run that starts at hour f has
 --   hours_of held start f    the hours of the run that starts at hour f; 0 where none does
---   SoundRow held start     the bits stand for runs
+--   SoundRow held start      the bits stand for runs
 use Rattle.std.specs.Prelude.{◌≡◌, ℕ, suc, ◌+◌, ◌*◌, ◌/◌, ◌%◌, ◌^◌, ◌<◌, ◌≤◌, Bool, true, false, cond, not, ◌&&◌, ◌||◌, ◌⊎◌, List, Some, None, Option, ◌==◌, nat_lt, slice_index}
 use Rattle.calendar.specs.Week.{any, total, least, later, covers}
 

@@ -8,8 +8,8 @@
 --   words_mean ws L C       what the words mean
 --   Kept ws L C             what the words of a map keep
 --   Placed ws L C r b       a plant of that size can have the run r, and its six words begin at b
---   FreeAt ws L C r b      the run can be held there: no hour of it has its held bit set
---   LiveAt ws L C r b      the run is live there: the bits show it from its first hour on
+--   FreeAt ws L C r b       the run can be held there: no hour of it has its held bit set
+--   LiveAt ws L C r b       the run is live there: the bits show it from its first hour on
 --   Spare ws ws' n          the words from n on, and their number, are as they were
 use Rattle.std.specs.Prelude.{◌≡◌, ℕ, ◌+◌, ◌-◌, ◌*◌, ◌<◌, ◌≤◌, Bool, true, false, cond, not, List, length, slice_index}
 use Rattle.calendar.specs.Week.{any, later}

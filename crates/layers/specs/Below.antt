@@ -2,13 +2,13 @@
 -- plant below means, so that L m is what the layer means.
 --
 --   Passed L m                the layer has as much room as the plant below, and as many held cells of each link
---   HourStands L m h k       hour k of the plant below stands for hour h
---   ChannelStands L m w c    channel c of the plant below stands for channel w
---   RunStands L m r s        the run s of the plant below stands for the run r
---   NoHour m h               h is no hour of the week: every cell is closed in it, and none is held
---   NoChannel m w            every cell of channel w is closed, and none is held
---   OutOfRange m r          the plant cannot have the run r
---   AllClosed m r            the plant could have the run r, but its cells are closed
+--   HourStands L m h k        hour k of the plant below stands for hour h
+--   ChannelStands L m w c     channel c of the plant below stands for channel w
+--   RunStands L m r s         the run s of the plant below stands for the run r
+--   NoHour m h                h is no hour of the week: every cell is closed in it, and none is held
+--   NoChannel m w             every cell of channel w is closed, and none is held
+--   OutOfRange m r            the plant cannot have the run r
+--   AllClosed m r             the plant could have the run r, but its cells are closed
 --   unmoved o found           the hour found by a plant that is o hours ahead, as a clock over it names it
 --   before_window r k found   the hour found in the first k hours of r; else the hour after them, if r goes on
 use Rattle.std.specs.Prelude.{◌≡◌, ℕ, ◌-◌, true, false, cond, Some, None, Option, nat_lt}

@@ -1,7 +1,7 @@
 -- What a network keeps of its links.
 --
 --   Inside places l         both ends of link l are among the places
---   AllInside places ls    so of every link
+--   AllInside places ls     so of every link
 use Rattle.std.specs.Prelude.{ℕ, ◌≤◌, max, List, length}
 use Rattle.std.specs.List.{AllWithin}
 use Rattle.network.specs.declared.link.Link.{Link}

@@ -1,9 +1,9 @@
 -- When a network is made and a link is added.
 --
 --   WhyNotMade fits why     why a network is not made: outside the limits, or within them for want of memory
---   takes net l           the network takes one more link l: its ends are places, and there are fewer than 40 links
---   add_answer net l      what adding l answers
---   links_after net l     the links then
+--   takes net l             the network takes one more link l: its ends are places, and there are fewer than 40 links
+--   add_answer net l        what adding l answers
+--   links_after net l       the links then
 use Rattle.std.specs.Prelude.{◌≡◌, Bool, true, false, cond, ◌&&◌, List, [], ◌∷◌, ◌++◌, Ok, Err, vec_items, vec_len, Result, nat_le, nat_lt}
 use Rattle.network.specs.declared.link.Link.{Link}
 use Rattle.network.specs.declared.network.Network.{Network}

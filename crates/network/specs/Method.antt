@@ -11,7 +11,7 @@
 --   greedy g bound rows j v paid  j links from v, each the first that fits
 --   cell_at cells j v       the cell of row j at place v, in rows of 33
 --   Relaxed g old new j i   row j + 1 is offered link i, with row j ahead; rows up to j are as they were
---   NextRow g old new j    row j + 1 has the least of what all links offer, with row j ahead; rows up to j are as they were
+--   NextRow g old new j     row j + 1 has the least of what all links offer, with row j ahead; rows up to j are as they were
 --   Tabled g t cells m      the cells of the rows up to m are those of the table
 use Rattle.std.specs.Prelude.{◌≡◌, ℕ, zero, suc, ◌+◌, ◌*◌, ◌<◌, ◌≤◌, Bool, false, cond, List, [], ◌∷◌, Some, None, Option, ◌==◌, slice_index_or}
 use Rattle.network.specs.Paths.{when_there, Ground}

@@ -1,6 +1,6 @@
 -- The law from the tie.
 use Rattle.std.proofs.Common.{◌≡◌, ℕ, ◌≤◌, not, List, [], ◌∷◌, sum_by, ap, arith}
-use Rattle.std.specs.List.{AllByRecursion as All}
+use Rattle.std.specs.List.{AllByRecursion}
 use Rattle.std.proofs.lemmas.List.Sums.{sum_by-cons}
 use Rattle.calendar.specs.Meaning.{Meaning, is_held}
 use Rattle.network.specs.Paths.{crossing}
@@ -21,7 +21,7 @@ use Rattle.floor.proofs.Owns.{own_plan_law}
 use Rattle.planner.specs.Law.{Lawful}
 
 -- every order that fits is on a path
-on_paths : (net : Network) (L C : ℕ) (es : List Standing) → sum_by (λ e. num (not (fit net L C e))) es ≡ 0 → All (OnPath net) es
+on_paths : (net : Network) (L C : ℕ) (es : List Standing) → sum_by (λ e. num (not (fit net L C e))) es ≡ 0 → AllByRecursion (OnPath net) es
 on_paths net L C [] z = tt
 on_paths net L C (e ∷ es) z =
     let misfits = sum_by-cons (λ x. num (not (fit net L C x))) e es in

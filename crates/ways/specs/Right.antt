@@ -1,11 +1,11 @@
 -- That the way an order gets is the right one, in plain words.
 --
---   AllowedWay w x      x is a way that the order could get: its hours are hours of the week, its block lies within the
+--   AllowedWay w x       x is a way that the order could get: its hours are hours of the week, its block lies within the
 --                        channels, its links are a path that may be used, and the block is free on each of them
 --   Ahead fit w x y      x is chosen rather than y, or is y: the lowest first channel first, or the cheapest path first
---   ChosenWay fit w x   x is allowed, and is ahead of every allowed way
+--   ChosenWay fit w x    x is allowed, and is ahead of every allowed way
 --   Right fit w o        o is the chosen way, or nothing where no way is allowed
---   WayIsRight k       what chosen_way names is right, over every network and every plant
+--   WayIsRight k         what chosen_way names is right, over every network and every plant
 use Rattle.std.specs.Prelude.{◌≡◌, ℕ, ◌≤◌, true, Option, MatchOption}
 use Rattle.network.specs.Choice.{Before}
 use Rattle.network.specs.Costs.{Kind}

@@ -2,7 +2,7 @@
 --
 --   every_link l         true: every link may be used
 --   Named                a way as the rules speak of it: a first channel and a list of link numbers
---   FormedWay w         the path of w is a list of eight numbers, with zeros after the last that is in use
+--   FormedWay w          the path of w is a list of eight numbers, with zeros after the last that is in use
 --   Wanted C             what is searched for, and where: a cost kind, a network, the links that may be used, the
 --                        channels that are free on a link, how many channels there are, and the order
 --   wanted k net may m o what is wanted where the plant means m: a channel is free that is not taken in the order's hours
