@@ -78,9 +78,8 @@ pub(crate) fn first_fit<C: Cost>(
 
 // The first way, unless the second is cheaper.
 fn cheaper_way<C: Cost>(net: &Network, best: Option<Way>, next: Option<Way>) -> Option<Way>
-    requires { (IfSome best FormedWay) × (IfSome next FormedWay) }
     ensures way { option_map named result ≡ cheaper C.Cost.kind net.now (option_map named best) (option_map named next) }
-    ensures formed { IfSome result FormedWay }
+    ensures formed { IfSome best FormedWay → IfSome next FormedWay → IfSome result FormedWay }
 {
     match (best, next) {
         (None, _) => next,
