@@ -1,6 +1,6 @@
 ghost use Rattle.std.specs.Prelude.{◌≡◌, ℕ, ◌≤◌, List};
 ghost use Rattle.orders.specs.Standing.{num, all_stood};
-ghost use Rattle.floor.specs.Floor.{has_end, touches as touches_at, ends_at as EndsThere, share as share_of, load as load_at, always, links_at as links_there, rounded_up, busiest as busiest_at, floor as floor_of};
+ghost use Rattle.floor.specs.Floor.{has_end, touches as touches_at, ends_at as ends_there, share as share_of, load as load_at, always, links_at as links_there, rounded_up, busiest as busiest_at, floor as floor_of};
 ghost use Rattle.floor.specs.Plans.{Placed, Plan, channels_of, orders_of};
 
 use calendar::hours::covers_hour;
@@ -20,7 +20,7 @@ pub(crate) fn one_if(yes: bool) -> u32
 
 // Whether the order begins or ends at place v.
 fn ends_at(order: Order, v: u8) -> bool
-    ensures { result ≡ EndsThere order v }
+    ensures { result ≡ ends_there order v }
 {
     (order.from == v) | (order.to == v)
 }
