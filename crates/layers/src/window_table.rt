@@ -1,4 +1,4 @@
-ghost use Rattle.std.specs.Prelude.{◌≡◌, ℕ, ◌+◌, ◌<◌, ◌≤◌, min, true, ◌&&◌, ltb, is_ok, if◌then◌else◌, MatchResult, ◌==◌, nat_eq, nat_lt, slice_index_or, slice_set};
+ghost use Rattle.std.specs.Prelude.{◌≡◌, ℕ, ◌+◌, ◌<◌, ◌≤◌, min, true, ◌&&◌, is_ok, if◌then◌else◌, MatchResult, ◌==◌, nat_eq, nat_lt, slice_index_or, slice_set};
 ghost use Rattle.calendar.specs.Numbers.{making_number};
 ghost use Rattle.calendar.specs.Making.{formed, window_number};
 ghost use Rattle.calendar.specs.Week.{covers, least, later, until};
@@ -20,7 +20,7 @@ pub struct WindowTable {
 // Whether a table that has a place takes such a window: on link 1 to 40, from an hour of the week on, for 1 to 168 hours.
 fn is_formed(link: u32, first: u32, hours: u32) -> bool
     ensures good { result ≡ formed (record { link = link; first = first; hours = hours }) }
-    ensures answer { (n : ℕ) → window_number n (record { link = link; first = first; hours = hours }) ≡ (if ltb n 8 && result then 0 else 13) }
+    ensures answer { (n : ℕ) → window_number n (record { link = link; first = first; hours = hours }) ≡ (if nat_lt n 8 && result then 0 else 13) }
     ensures small { result ≡ true → (link ≤ 40) × (first < 168) × (hours ≤ 168) }
 {
     let known = (1 <= link) & (link <= 40);

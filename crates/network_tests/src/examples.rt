@@ -5,7 +5,7 @@ use network::loss::Loss;
 use network::metres::Metres;
 use std::alloc::{AllocError, Global};
 use std::process::Abort;
-use std::test::*;
+use std::test::Fail;
 
 // A link's two places, its metres and its loss.
 type Figures = (u8, u8, u32, u32);

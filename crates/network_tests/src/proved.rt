@@ -6,7 +6,7 @@ use network::network::Network;
 use network::search::{Scratch, chosen_path};
 use network::usable::Usable;
 use std::alloc::Global;
-use std::test::*;
+use std::test::Fail;
 
 // How many links a path has, and their numbers with zeros after the last.
 pub type Answer = Option<(u8, [u8; 8])>;

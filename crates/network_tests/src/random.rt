@@ -7,7 +7,7 @@ use network::loss::Loss;
 use network::metres::Metres;
 use std::alloc::Global;
 use std::process::Abort;
-use std::test::*;
+use std::test::Fail;
 
 const NETWORKS: u32 = 300;
 

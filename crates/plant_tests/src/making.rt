@@ -1,6 +1,5 @@
 use crate::bottoms::{rows, words};
 use bitmap::map::Map;
-use calendar::run::Run;
 use layers::card_table::CardTable;
 use layers::offset::Offset;
 use layers::window_table::WindowTable;

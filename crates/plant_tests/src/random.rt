@@ -4,7 +4,6 @@ use crate::dice::Dice;
 use crate::list_plant::ListPlant;
 use crate::piles::{carded, clocked, plain, plain_carded, plain_tall, plain_windowed, windowed};
 use plant::Plant;
-use std::alloc::Global;
 use std::process::Abort;
 use std::test::Fail;
 

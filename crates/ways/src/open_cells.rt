@@ -1,4 +1,4 @@
-ghost use Rattle.std.specs.Prelude.{◌≡◌, ℕ, ◌+◌, ◌*◌, ◌<◌, ◌≤◌, true, vec_len, slice_set};
+ghost use Rattle.std.specs.Prelude.{◌≡◌, ◌+◌, ◌*◌, ◌≤◌, true, vec_len, slice_set};
 ghost use Rattle.calendar.specs.Meaning.{taken};
 ghost use Rattle.ways.specs.Hours.{hours_fit, run_free, RowAsked, Asked};
 

@@ -1,4 +1,4 @@
-ghost use Rattle.std.specs.Prelude.{◌≡◌, ℕ, ◌-◌, ◌<◌, ◌≤◌, true, false, length, get_or, if◌then◌else◌, vec_len, MatchOption, nat_eq, slice_index_or, slice_set};
+ghost use Rattle.std.specs.Prelude.{◌≡◌, ℕ, ◌-◌, ◌<◌, ◌≤◌, true, false, length, if◌then◌else◌, vec_len, MatchOption, nat_eq, slice_index_or, slice_set};
 ghost use Rattle.calendar.specs.Week.{any, total, least, later};
 ghost use Rattle.calendar.specs.Rows.{no_run, on_cell, same_run, used};
 
@@ -65,7 +65,7 @@ fn row_held_count(row: Run, link: u8) -> u8
 // The cells of the link that the rows' runs hold.
 pub(crate) fn rows_held_count(rows: &[Run], link: u8) -> u32
     requires { length rows.now ≤ 4096 }
-    ensures { result ≡ total (length rows.now) (λ i. (if nat_eq (get_or rows.now i no_run).link link then (get_or rows.now i no_run).hours else 0)) }
+    ensures { result ≡ total (length rows.now) (λ i. (if nat_eq (slice_index_or rows.now i no_run).link link then (slice_index_or rows.now i no_run).hours else 0)) }
 {
     let mut count: u32 = 0;
     for row in rows {
@@ -76,7 +76,7 @@ pub(crate) fn rows_held_count(rows: &[Run], link: u8) -> u32
 
 // An empty row, if there is one.
 pub(crate) fn spare_row(rows: &[Run]) -> Option<usize>
-    ensures { MatchOption result ((k : ℕ) → k < length rows.now → 0 < (get_or rows.now k no_run).hours) (λ i. (i < length rows.now) × ((get_or rows.now i no_run).hours ≡ 0)) }
+    ensures { MatchOption result ((k : ℕ) → k < length rows.now → 0 < (slice_index_or rows.now k no_run).hours) (λ i. (i < length rows.now) × ((slice_index_or rows.now i no_run).hours ≡ 0)) }
 {
     for i in 0..rows.len() {
         if rows[i].hours == 0 {
@@ -135,7 +135,7 @@ pub(crate) fn put_row(rows: &mut Vec<Run>, i: usize, run: Run)
 // Empties every row.
 pub(crate) fn clear_rows(rows: &mut Vec<Run>)
     ensures len { vec_len rows.new ≡ vec_len rows.old }
-    ensures empty { (j : ℕ) → j < length rows.new.items → (get_or rows.new.items j no_run).hours ≡ 0 }
+    ensures empty { (j : ℕ) → j < length rows.new.items → (slice_index_or rows.new.items j no_run).hours ≡ 0 }
 {
     for i in 0..rows.len() {
         rows[i] = EMPTY;
