@@ -5,7 +5,7 @@ ghost use Rattle.calendar.specs.Meaning.{within, fits, hour_at};
 use crate::hours::hour_after;
 
 // A run: one channel of one link, from a first hour on for some hours, around the week.
-#[derive(Clone, Copy)]
+#[derive(Clone, Copy, Debug, Default, PartialEq, Eq)]
 pub struct Run {
     pub link: u8,
     pub channel: u8,
@@ -14,14 +14,14 @@ pub struct Run {
 }
 
 // How many links and channels a plant has.
-#[derive(Clone, Copy)]
+#[derive(Clone, Copy, Debug, PartialEq, Eq)]
 pub struct Size {
     pub links: u8,
     pub channels: u8,
 }
 
 // A window: all channels of the link are closed in these hours.
-#[derive(Clone, Copy)]
+#[derive(Clone, Copy, Debug, Default, PartialEq, Eq)]
 pub struct Window {
     pub link: u8,
     pub first: u8,
@@ -33,8 +33,7 @@ impl Size {
     pub fn has_cell(self, link: u8, channel: u8, hour: u8) -> bool
         ensures { result ≡ within self.links self.channels link channel hour }
     {
-        ((1 <= link) & (link <= self.links))
-            & (((1 <= channel) & (channel <= self.channels)) & (hour < 168))
+        (1..=self.links).contains(&link) && (1..=self.channels).contains(&channel) && hour < 168
     }
 }
 
@@ -43,19 +42,14 @@ impl Run {
     pub fn fits(self, size: Size) -> bool
         ensures { result ≡ fits size.links size.channels self }
     {
-        size.has_cell(self.link, self.channel, self.first)
-            & ((1 <= self.hours) & (self.hours <= 168))
+        size.has_cell(self.link, self.channel, self.first) && (1..=168).contains(&self.hours)
     }
 
     // The hour of the run that comes `after` hours after its first, if it has so many.
     pub fn hour_at(self, after: u8) -> Option<u8>
         ensures { result ≡ hour_at self after }
     {
-        if after < self.hours {
-            Some(hour_after(self.first, after))
-        } else {
-            None
-        }
+        (after < self.hours).then(|| hour_after(self.first, after))
     }
 }
 
@@ -63,5 +57,5 @@ impl Run {
 pub fn sizes_fit(links: u32, channels: u32) -> bool
     ensures { result ≡ sizes_fit links channels }
 {
-    ((1 <= links) & (links <= 40)) & ((1 <= channels) & (channels <= 16))
+    (1..=40).contains(&links) && (1..=16).contains(&channels)
 }
