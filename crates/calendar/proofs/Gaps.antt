@@ -1,12 +1,12 @@
 -- How many hours of a run come before one that a row covers.
-use Rattle.std.proofs.Common.{◌≡◌, ℕ, ◌+◌, ◌<◌, ◌≤◌, min, Bool, true, false, ◌&&◌, ◌||◌, eqb, ltb, List, length, get_or, sym, ap, ◌∙◌, arith}
+use Rattle.std.proofs.Common.{◌≡◌, ℕ, ◌+◌, ◌<◌, ◌≤◌, min, Bool, true, false, cond, ◌&&◌, ◌||◌, eqb, ltb, List, length, get_or, sym, refl, ap, ◌∙◌, arith}
 use Rattle.calendar.specs.Week.{any, least, later, covers, until}
 use Rattle.calendar.specs.Meaning.{Meaning, is_held, proper, meets, free_hours}
 use Rattle.calendar.specs.Rows.{Kept, no_run, on_cell, tabled}
 use Rattle.calendar.specs.declared.run.Run.{Run}
 use Rattle.std.proofs.lemmas.Bool.{lt-ltb, le-ltb}
-use Rattle.calendar.proofs.Sums.{any_suc, any_empty, any_none, any_or}
-use Rattle.calendar.proofs.Leasts.{least_cong, least_none, least_or, least_any}
+use Rattle.calendar.proofs.Sums.{any_none, any_or}
+use Rattle.calendar.proofs.Leasts.{least_cong, least_none, least_any}
 use Rattle.calendar.proofs.Circle.{until_within}
 use Rattle.calendar.proofs.Tabled.{held_rows, never_closed}
 
@@ -18,24 +18,12 @@ row_on row r j = on_cell row r.link r.channel (later r.first j)
 abbrev pub rows_on : List Run → ℕ → Run → ℕ → Bool
 rows_on rows i r j = any i (λ k. row_on (get_or rows k no_run) r j)
 
-module _ (row r : Run) (n : ℕ) where
-  pub gap_on : n ≤ 168 → (eqb r.link row.link && eqb r.channel row.channel) ≡ true → least n (row_on row r) ≡ min (until row.first row.hours r.first) n
-  gap_on b e =
-      least_cong n (row_on row r) (λ j. covers row.first row.hours (later r.first j)) (λ j _. ap (λ x. x && covers row.first row.hours (later r.first j)) e)
-      ∙ until_within n row.first row.hours r.first b ∙ omega arith
-
-  pub gap_off : (eqb r.link row.link && eqb r.channel row.channel) ≡ false → least n (row_on row r) ≡ n
-  gap_off e = least_none n (row_on row r) (λ j _. ap (λ x. x && covers row.first row.hours (later r.first j)) e)
-
--- a loop over the rows
-pub gap_start : (rows : List Run) (r : Run) (n : ℕ) → n ≡ least n (rows_on rows 0 r)
-gap_start rows r n = sym (least_none n (rows_on rows 0 r) (λ j _. any_empty (λ k. row_on (get_or rows k no_run) r j)))
-
-pub gap_more : (rows : List Run) (r : Run) (n i a b : ℕ) → a ≡ least n (row_on (get_or rows i no_run) r) → b ≡ least n (rows_on rows i r) → min a b ≡ least n (rows_on rows (i + 1) r)
-gap_more rows r n i a b p q =
-    ap (λ x. min x b) p ∙ ap (min (least n (row_on (get_or rows i no_run) r))) q
-    ∙ sym (least_cong n (rows_on rows (i + 1) r) (λ j. row_on (get_or rows i no_run) r j || rows_on rows i r j) (λ j _. any_suc i (λ k. row_on (get_or rows k no_run) r j))
-    ∙ least_or n (row_on (get_or rows i no_run) r) (rows_on rows i r))
+-- how many hours of the run come before one that the row covers
+pub row_free : (row r : Run) → r.hours ≤ 168 → cond (eqb r.link row.link && eqb r.channel row.channel) (min (until row.first row.hours r.first) r.hours) r.hours ≡ least r.hours (row_on row r)
+row_free row r h = case (eqb r.link row.link && eqb r.channel row.channel) where
+  case : (t : Bool) → cond t (min (until row.first row.hours r.first) r.hours) r.hours ≡ least r.hours (λ j. t && covers row.first row.hours (later r.first j))
+  case true = omega (arith, until_within r.hours row.first row.hours r.first h)
+  case false = sym (least_none r.hours (λ j. false) (λ j _. refl))
 
 -- the free hours of a run in a timetable, by its rows
 pub rows_free : (rows : List Run) (ls cs : ℕ) → Kept rows ls cs → (r : Run) → proper (tabled rows ls cs) r ≡ true → least r.hours (rows_on rows (length rows) r) ≡ free_hours (tabled rows ls cs) r

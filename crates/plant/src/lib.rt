@@ -48,7 +48,7 @@ pub trait Plant {
     fn taken(&self, link: u8, channel: u8, hour: u8) -> bool
         ensures { result ≡ taken (meaning self.now) link channel hour }
     {
-        self.closed(link, channel, hour) | self.held(link, channel, hour)
+        self.closed(link, channel, hour) || self.held(link, channel, hour)
     }
 
     // The first hour of the run that is closed or held, if any; the run's first hour where the plant cannot have it.
@@ -58,6 +58,7 @@ pub trait Plant {
         if !run.fits(self.size()) {
             return Some(run.first);
         }
+        // A loop, since the proof of a chain with `find` learns nothing of a test that the plant itself answers.
         for j in 0..run.hours {
             let hour = hour_after(run.first, j);
             if self.taken(run.link, run.channel, hour) {

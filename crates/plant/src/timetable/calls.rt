@@ -5,10 +5,7 @@ ghost use Rattle.calendar.specs.Numbers.{making_number};
 ghost use Rattle.calendar.proofs.Props.{rows_sound};
 ghost use Rattle.plant.specs.Means.{table_means};
 
-use super::rows::{
-    EMPTY, clear_rows, put_row, row_of, rows_free_hours, rows_held_count, rows_hold, spare_row,
-    spare_rows,
-};
+use super::rows::{clear_rows, row_free_hours};
 use super::{RefusedRows, Timetable};
 use crate::Plant;
 use calendar::refusal::{MakingRefusal, PlantRefusal};
@@ -16,7 +13,7 @@ use calendar::run::{Run, Size, sizes_fit};
 
 impl Timetable {
     // An empty and open timetable over the rows, or the rows back as they were.
-    pub fn new(rows: Vec<Run>, links: u32, channels: u32) -> Result<Timetable, RefusedRows>
+    pub fn new(mut rows: Vec<Run>, links: u32, channels: u32) -> Result<Timetable, RefusedRows>
         ensures { MatchResult result
             (λ t. (table_number links channels (vec_len rows) ≡ 0) × (table_means t ≡ open_plant links channels (vec_len rows)))
             (λ e. (table_number links channels (vec_len rows) ≡ making_number e.why) × (e.rows.items ≡ rows.items)) }
@@ -27,13 +24,12 @@ impl Timetable {
                 rows,
             });
         }
-        if !(rows.len() <= 4096) {
+        if rows.len() > 4096 {
             return Err(RefusedRows {
                 why: MakingRefusal::BadMemory,
                 rows,
             });
         }
-        let mut rows = rows;
         clear_rows(&mut rows);
         Ok(Timetable {
             rows,
@@ -46,12 +42,15 @@ impl Timetable {
     pub fn into_rows(self) -> Vec<Run>
         ensures { result.items ≡ self.rows.items }
     {
-        let Timetable {
-            rows,
-            links: _,
-            channels: _,
-        } = self;
+        let Timetable { rows, .. } = self;
         rows
+    }
+
+    // Whether the timetable can have the run.
+    fn fits(&self, run: Run) -> bool
+        ensures { result ≡ proper (table_means self.now) run }
+    {
+        run.fits(self.size())
     }
 
     // How many hours of the run are free before one that is not.
@@ -59,7 +58,9 @@ impl Timetable {
         requires { proper (table_means self.now) run ≡ true }
         ensures { result ≡ free_hours (table_means self.now) run }
     {
-        rows_free_hours(&self.rows, run)
+        self.rows
+            .iter()
+            .fold(run.hours, |free, row| row_free_hours(*row, run).min(free))
     }
 }
 
@@ -76,7 +77,7 @@ impl Plant for Timetable {
     }
 
     fn room(&self) -> u32 {
-        spare_rows(&self.rows)
+        self.spare_rows()
     }
 
     fn closed(&self, link: u8, channel: u8, hour: u8) -> bool {
@@ -84,44 +85,36 @@ impl Plant for Timetable {
     }
 
     fn held(&self, link: u8, channel: u8, hour: u8) -> bool {
-        rows_hold(&self.rows, link, channel, hour)
+        self.some_row_on(link, channel, hour)
     }
 
     fn held_count(&self, link: u8) -> u32 {
-        rows_held_count(&self.rows, link)
+        self.link_hours(link)
     }
 
     fn hold(&mut self, run: Run) -> Result<(), PlantRefusal> {
-        if !run.fits(self.size()) {
+        if !self.fits(run) {
             return Err(PlantRefusal::OutOfRange);
         }
         if self.free_hours(run) < run.hours {
             return Err(PlantRefusal::CellHeld);
         }
-        match spare_row(&self.rows) {
-            None => Err(PlantRefusal::NoRoom),
-            Some(i) => {
-                put_row(&mut self.rows, i, run);
-                Ok(())
-            }
-        }
+        let i = self.spare_row().ok_or(PlantRefusal::NoRoom)?;
+        self.put_row(i, run);
+        Ok(())
     }
 
     fn release(&mut self, run: Run) -> Result<(), PlantRefusal> {
-        if !run.fits(self.size()) {
+        if !self.fits(run) {
             return Err(PlantRefusal::OutOfRange);
         }
-        match row_of(&self.rows, run) {
-            None => Err(PlantRefusal::NoSuchRun),
-            Some(i) => {
-                put_row(&mut self.rows, i, EMPTY);
-                Ok(())
-            }
-        }
+        let i = self.row_of(run).ok_or(PlantRefusal::NoSuchRun)?;
+        self.put_row(i, Run::default());
+        Ok(())
     }
 
     fn first_taken(&self, run: Run) -> Option<u8> {
-        if !run.fits(self.size()) {
+        if !self.fits(run) {
             return Some(run.first);
         }
         run.hour_at(self.free_hours(run))

@@ -1,39 +1,42 @@
-use Rattle.std.proofs.Common.{true, false, get_or, sym, ap, ◌∙◌, subst, arith}
+use Rattle.std.proofs.Common.{◌≡◌, true, set, sym, ap, ◌∙◌, subst, rules}
+use Rattle.std.specs.Result.{result_ok}
+use Rattle.calendar.specs.Meaning.{proper}
 use Rattle.calendar.specs.Rows.{Kept, no_run, tabled}
+use Rattle.calendar.specs.Numbers.{answer_number}
 use Rattle.calendar.proofs.Plants.{refused_release}
-use Rattle.calendar.proofs.Tabled.{cut_answer, decides_run, lost_answer, no_row, release_kept}
+use Rattle.calendar.proofs.Tabled.{cut_answer, lost_answer, release_kept}
 use Rattle.plant.specs.Means.{table_means}
-use Rattle.plant.proofs.Tables.{kept, tested}
+use Rattle.plant.proofs.Tables.{kept}
 use Rattle.plant.proofs.timetable.calls.TimetablePlant.release.Goals as goal
 
 pub returns-then-not-fits : goal.returns-then-not-fits
-returns-then-not-fits c =
-    let t = c.args.self.now in
-    refused_release (table_means t) c.args.run (tested t c.args.run c.size.result c.fits.result false c.size.ensures c.fits.ensures c.if-not-fits.true)
+returns-then-not-fits c = refused_release (table_means c.args.self.now) c.args.run (search rules)
 
-pub returns-in-None : goal.returns-in-None
-returns-in-None c =
+pub returns-in_err-i : goal.returns-in_err-i
+returns-in_err-i c =
     let t = c.args.self.now in
     let r = c.args.run in
-    let ok = tested t r c.size.result c.fits.result true c.size.ensures c.fits.ensures c.if-not-fits.false in
-    lost_answer t.rows.items t.links t.channels (kept t) r ok (no_row t.rows.items r (rw c.deref.ensures.value at c.in-None.ensures))
+    let ok : proper (table_means t) r ≡ true = search rules in
+    let a = lost_answer t.rows.items t.links t.channels (kept t) r ok (rw (c.ok_or.ensures.ok_part ∙ ap result_ok c.in_err-i.was) at c.row_of.ensures) in
+    let e : answer_number c.from_residual.result ≡ 25 = search rules in
+    record { answer = e ∙ a.answer; after = a.after }
 
-pub invariant_of-self : goal.invariant_of-self
-invariant_of-self c =
+pub put_row-requires : goal.put_row-requires
+put_row-requires c =
     let t = c.args.self.now in
     let r = c.args.run in
-    let ok = tested t r c.size.result c.fits.result true c.size.ensures c.fits.ensures c.if-not-fits.false in
-    let w = rw c.deref.ensures.value at c.in-Some.ensures in
-    let there = (decides_run (get_or t.rows.items c.in-Some.i no_run) r).0 w.1 in
-    let new = release_kept t.rows.items t.links t.channels (kept t) c.in-Some.i w.0 r ok there in
-    record { few = omega (arith, t.few, c.put_row.ensures.len); kept = ∣ subst (λ xs. Kept xs t.links t.channels) (sym c.put_row.ensures.items) new ∣₁ }
+    let ok : proper (table_means t) r ≡ true = search rules in
+    let w = rw (c.ok_or.ensures.ok_part ∙ ap result_ok c.in_ok-i.was) at c.row_of.ensures in
+    let e : c.default.result ≡ no_run = search rules in
+    let new = release_kept t.rows.items t.links t.channels (kept t) c.in_ok-i.i w.0 r ok w.1 in
+    record { row = w.0; kept = ∣ subst (λ x. Kept (set t.rows.items c.in_ok-i.i x) t.links t.channels) (sym e) new ∣₁ }
 
-pub returns-in-Some : goal.returns-in-Some
-returns-in-Some c =
+pub returns : goal.returns
+returns c =
     let t = c.args.self.now in
     let r = c.args.run in
-    let ok = tested t r c.size.result c.fits.result true c.size.ensures c.fits.ensures c.if-not-fits.false in
-    let w = rw c.deref.ensures.value at c.in-Some.ensures in
-    let there = (decides_run (get_or t.rows.items c.in-Some.i no_run) r).0 w.1 in
-    let done = cut_answer t.rows.items t.links t.channels (kept t) r ok c.in-Some.i w.0 there in
-    record { answer = done.answer; after = ap (λ xs. tabled xs t.links t.channels) c.put_row.ensures.items ∙ done.after }
+    let ok : proper (table_means t) r ≡ true = search rules in
+    let w = rw (c.ok_or.ensures.ok_part ∙ ap result_ok c.in_ok-i.was) at c.row_of.ensures in
+    let e : c.default.result ≡ no_run = search rules in
+    let a = cut_answer t.rows.items t.links t.channels (kept t) r ok c.in_ok-i.i w.0 w.1 in
+    record { answer = a.answer; after = c.put_row.ensures ∙ ap (λ x. tabled (set t.rows.items c.in_ok-i.i x) t.links t.channels) e ∙ a.after }
