@@ -1,5 +1,5 @@
 -- How many hours of a run come before one that a row covers.
-use Rattle.std.proofs.Common.{◌≡◌, ℕ, ◌+◌, ◌<◌, ◌≤◌, min, Bool, true, false, cond, ◌&&◌, ◌||◌, eqb, ltb, List, length, get_or, sym, refl, ap, ◌∙◌, arith}
+use Rattle.std.proofs.Common.{◌≡◌, ℕ, ◌<◌, ◌≤◌, min, Bool, true, false, cond, ◌&&◌, ◌||◌, eqb, ltb, List, length, get_or, sym, refl, ap, ◌∙◌, arith}
 use Rattle.calendar.specs.Week.{any, least, later, covers, until}
 use Rattle.calendar.specs.Meaning.{Meaning, is_held, proper, meets, free_hours}
 use Rattle.calendar.specs.Rows.{Kept, no_run, on_cell, tabled}

@@ -1,13 +1,13 @@
 -- A timetable's rows.
-use Rattle.std.proofs.Common.{◌≡◌, ℕ, suc, ◌+◌, ◌-◌, ◌<◌, ◌≤◌, min, true, false, cond, not, ◌&&◌, eqb, leb, ◌≢◌, List, length, get_or, set, Ok, Err, Decides, sym, refl, ap, ◌∙◌, subst, ⊎_elim, arith, length-set, get_or-set_other, get_or-set_same}
-use Rattle.std.proofs.lemmas.Bool.{cases_Bool, cases_eq, cases_lt, both_ways, and_parts, and_from, eqb-true, eq-eqb, ne_eqb, cond-true, cond-false, cond_both, not_from_true, not-false}
+use Rattle.std.proofs.Common.{◌≡◌, ℕ, suc, ◌+◌, ◌-◌, ◌<◌, ◌≤◌, min, true, false, cond, not, ◌&&◌, eqb, ◌≢◌, List, length, get_or, set, Ok, Err, sym, refl, ap, ◌∙◌, subst, ⊎_elim, arith, length-set, get_or-set_other, get_or-set_same}
+use Rattle.std.proofs.lemmas.Bool.{cases_Bool, cases_eq, cases_lt, and_parts, and_from, eqb-true, eq-eqb, ne_eqb, cond-true, cond-false, cond_both, not_from_true, not-false}
 use Rattle.calendar.specs.Week.{any, total, later, covers}
 use Rattle.calendar.specs.Numbers.{answer_number}
 use Rattle.calendar.specs.Meaning.{Meaning, Sound, within, proper, meets, is_held, live_count, room_of, with_run, put, hold_number, after_hold, release_number, after_release}
-use Rattle.calendar.specs.Rows.{same_run, Kept, no_run, starts, row_live, used, tabled, on_cell}
+use Rattle.calendar.specs.Rows.{Kept, no_run, starts, row_live, used, tabled, on_cell}
 use Rattle.calendar.specs.declared.run.Run.{Run}
 use Rattle.calendar.specs.declared.refusal.PlantRefusal.TheVariants.{CellHeld, NoRoom, NoSuchRun}
-use Rattle.calendar.proofs.Sums.{bool_same, any_cong, any_intro, any_elim, any_false, total_point, total_zero, total_some, total_ones, total_most}
+use Rattle.calendar.proofs.Sums.{bool_same, any_intro, any_elim, any_false, total_point, total_zero, total_some, total_ones, total_most}
 use Rattle.calendar.proofs.Plants.{inside_parts, inside_from, proper_parts}
 use Rattle.calendar.proofs.Kept.{count_at, none_there, hold_sound, release_sound}
 
@@ -293,25 +293,6 @@ module _ (rows : List Run) (ls cs : ℕ) (k : Kept rows ls cs) (r : Run) (ok : p
       let e : release_number (tabled rows ls cs) r ≡ 25 = rw (ok, z) in
       record { answer = sym e; after = rw e }
 
-pub decides_run : (a b : Run) → Decides (same_run a b) (a ≡ b)
-decides_run a b =
-    let l = eqb a.link b.link in
-    let c = eqb a.channel b.channel in
-    let f = eqb a.first b.first in
-    let h = eqb a.hours b.hours in (
-      λ e. let x = and_parts ((l && c) && f) h e in let y = and_parts (l && c) f x.0 in let z = and_parts l c y.0 in
-          equal_runs a b (eqb-true a.link b.link z.0) (eqb-true a.channel b.channel z.1) (eqb-true a.first b.first y.1) (eqb-true a.hours b.hours x.1),
-      λ e. and_from ((l && c) && f) h (and_from (l && c) f (and_from l c (eq-eqb a.link b.link (ap (λ x. x.link) e)) (eq-eqb a.channel b.channel (ap (λ x. x.channel) e))) (eq-eqb a.first b.first (ap (λ x. x.first) e))) (eq-eqb a.hours b.hours (ap (λ x. x.hours) e)),
-    )
-
-pub meets_rows : (rows : List Run) (ls cs : ℕ) (k : Kept rows ls cs) (r : Run) → meets (is_held (tabled rows ls cs)) r ≡ any r.hours (λ j. any (length rows) (λ i. on_cell (get_or rows i no_run) r.link r.channel (later r.first j)))
-unfolding meets
-meets_rows rows ls cs k r = any_cong r.hours (λ j. is_held (tabled rows ls cs) r.link r.channel (later r.first j)) _ (λ j _. held_rows rows ls cs k r.link r.channel (later r.first j))
-
-pub proper_rows : (rows : List Run) (ls cs : ℕ) (r : Run) → proper (tabled rows ls cs) r ≡ (within ls cs r.link r.channel r.first && (leb 1 r.hours && leb r.hours 168))
-unfolding proper
-proper_rows rows ls cs r = refl
-
 pub dead_rows : (rows : List Run) → ((j : ℕ) → j < length rows → (get_or rows j no_run).hours ≡ 0) → (l c f : ℕ) → row_live rows l c f ≡ 0
 unfolding row_live
 dead_rows rows none l c f = total_zero (length rows) (λ j. share (get_or rows j no_run) l c f) (λ j h. share_none (get_or rows j no_run) l c f (none j h))
@@ -340,14 +321,3 @@ empty_kept rows ls cs a b c d none =
 
       count : total ls (λ l. total cs (λ q. total 168 (λ f. min 1 (row_live rows (suc l) (suc q) f)))) ≡ 0
       count = total_zero ls _ (λ l _. total_zero cs _ (λ q _. total_zero 168 (λ f. min 1 (row_live rows (suc l) (suc q) f)) (λ f _. omega (arith, dead (suc l) (suc q) f))))
-
--- a row is empty or in use
-pub spare_or_used : (n : ℕ) → cond (eqb n 0) 1 0 + min 1 n ≡ 1
-spare_or_used n =
-    ⊎_elim
-    (λ (e : n ≡ 0). ap (λ b. cond b 1 0 + min 1 n) (eq-eqb n 0 e) ∙ omega (arith, e))
-    (λ e. ap (λ b. cond b 1 0 + min 1 n) (ne_eqb n 0 e) ∙ omega (arith, e))
-    (cases_eq n 0)
-
-pub no_row : (rows : List Run) (r : Run) → ((k : ℕ) → k < length rows → same_run (get_or rows k no_run) r ≡ false) → (k : ℕ) → k < length rows → get_or rows k no_run ≡ r → ⊥
-no_row rows r none k h e = both_ways (same_run (get_or rows k no_run) r) (none k h) ((decides_run (get_or rows k no_run) r).1 e)

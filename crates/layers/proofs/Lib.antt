@@ -1,6 +1,8 @@
 pub mod HeldCounts
 pub mod OutOfRange
 pub mod TakenClocked
+pub mod Fronts
+pub mod Clocks
 pub mod OpenHours
 pub mod TakenWindowed
 pub mod TakenCarded

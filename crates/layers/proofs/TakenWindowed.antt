@@ -1,5 +1,5 @@
 -- What a hold answers, and the first hour that is taken, under windows.
-use Rattle.std.proofs.Common.{◌≡◌, ℕ, ◌<◌, ◌≤◌, min, Bool, true, false, cond, ◌&&◌, ◌||◌, ltb, leb, List, Some, sym, refl, ap, ◌∙◌, ⊎_elim, arith}
+use Rattle.std.proofs.Common.{◌≡◌, ℕ, ◌<◌, ◌≤◌, min, Bool, true, false, cond, ◌&&◌, ◌||◌, ltb, leb, List, Some, None, MatchOption, sym, refl, ap, ◌∙◌, ⊎_elim, arith}
 use Rattle.std.proofs.lemmas.Bool.{cases_lt, and_from, and_parts, le-leb, lt-ltb, le-ltb, cond-true, cond-false}
 use Rattle.calendar.specs.Week.{later}
 use Rattle.calendar.specs.Meaning.{Meaning, inside, is_held, proper, meets, hold_number, after_hold, taken, free_hours, first_taken}
@@ -69,7 +69,7 @@ module _ (ws : List Window) (n : ℕ) (m : Meaning) where
   pub taken_unfit : (r : Run) → proper m r ≡ false → Some r.first ≡ first_taken (windowed ws n m) r
   taken_unfit r h = taken_out (windowed ws n m) r (proper_windowed ws n m r ∙ h)
 
-  pub taken_shut : (r : Run) (k : ℕ) → proper m r ≡ true → k ≡ open_hours ws n r → k ≡ 0 → Some r.first ≡ first_taken (windowed ws n m) r
+  taken_shut : (r : Run) (k : ℕ) → proper m r ≡ true → k ≡ open_hours ws n r → k ≡ 0 → Some r.first ≡ first_taken (windowed ws n m) r
   taken_shut r k h e z =
       let p = proper_parts m r h in
       let i = inside_parts m r.link r.channel r.first p.0 in
@@ -84,7 +84,7 @@ module _ (ws : List Window) (n : ℕ) (m : Meaning) where
     same = omega (arith, e, free_cut r k few, free_windowed r)
 
     -- what the plant below finds among the first k hours decides what the layer finds
-    pub first_windowed : first_taken (windowed ws n m) r ≡ before_window r k (first_taken m (cut r k))
+    first_windowed : first_taken (windowed ws n m) r ≡ before_window r k (first_taken m (cut r k))
     first_windowed =
         let p = proper_cut r k h some few in
         let f = free_hours m (cut r k) in
@@ -99,3 +99,11 @@ module _ (ws : List Window) (n : ℕ) (m : Meaning) where
         (cases_lt k r.hours)
         ∙ ap (before_window r k) (taken_none m (cut r k) f p refl z))
         (cases_lt f k)
+
+  -- the first part of the run, where it is free from the start
+  pub part_stands : (r : Run) (k : ℕ) → proper m r ≡ true → k ≡ open_hours ws n r → MatchOption (cond (ltb 0 k) (Some (cut r k)) None) (first_taken (windowed ws n m) r ≡ Some r.first) (λ s. first_taken (windowed ws n m) r ≡ before_window r s.hours (first_taken m s))
+  part_stands r k h e =
+      ⊎_elim
+      (λ (l : 0 < k). rw (lt-ltb 0 k l) (first_windowed r k h e l))
+      (λ (l : k ≤ 0). rw (le-ltb 0 k l) (sym (taken_shut r k h e (omega (arith, l)))))
+      (cases_lt 0 k)

@@ -11,9 +11,9 @@
 --   AllClosed m r             the plant could have the run r, but its cells are closed
 --   unmoved o found           the hour found by a plant that is o hours ahead, as a clock over it names it
 --   before_window r k found   the hour found in the first k hours of r; else the hour after them, if r goes on
-use Rattle.std.specs.Prelude.{◌≡◌, ℕ, ◌-◌, true, false, cond, Some, None, Option, nat_lt}
+use Rattle.std.specs.Prelude.{◌≡◌, ℕ, ◌-◌, true, false, Some, None, Option}
 use Rattle.calendar.specs.Week.{later}
-use Rattle.calendar.specs.Meaning.{Meaning, is_held, room_of, held_count, hold_number, after_hold, release_number, after_release, first_taken}
+use Rattle.calendar.specs.Meaning.{Meaning, is_held, room_of, held_count, hold_number, after_hold, release_number, after_release, hour_at, first_taken}
 use Rattle.calendar.specs.declared.run.Run.{Run}
 
 pub record Passed (L : Meaning → Meaning) (m : Meaning) : Type 0 where
@@ -65,4 +65,4 @@ unmoved o None = None
 
 abbrev pub before_window : Run → ℕ → Option ℕ → Option ℕ
 before_window r k (Some h) = Some h
-before_window r k None = cond (nat_lt k r.hours) (Some (later r.first k)) None
+before_window r k None = hour_at r k

@@ -1,10 +1,9 @@
-ghost use Rattle.std.specs.Prelude.{◌≡◌, MatchOption};
+ghost use Rattle.std.specs.Prelude.{◌≡◌, ◌⊎◌, MatchOption, MatchResult};
 ghost use Rattle.calendar.specs.Meaning.{size_of, first_taken};
 ghost use Rattle.calendar.specs.Layers.{carded};
 ghost use Rattle.calendar.proofs.Carded.{carded_sound, order_of};
 ghost use Rattle.layers.specs.Below.{Passed, ChannelStands, NoChannel, RunStands, OutOfRange, AllClosed};
 ghost use Rattle.layers.specs.Means.{order_means};
-ghost use Rattle.layers.specs.declared.card_order.Standing.TheVariants.{Unfit, Lacking, At};
 
 use super::card_table::CardTable;
 use calendar::refusal::PlantRefusal;
@@ -19,14 +18,6 @@ pub struct CardOrder<P> {
     table: CardTable,
 }
 
-// Where a run stands in the plant below: nowhere, on a channel that it lacks, or as another run.
-#[derive(Clone, Copy)]
-enum Standing {
-    Unfit,
-    Lacking,
-    At(Run),
-}
-
 impl<P: Plant> CardOrder<P> {
     pub fn new(below: P, table: CardTable) -> CardOrder<P>
         ensures { order_means P.Plant.meaning result ≡ carded table.entries (P.Plant.meaning below) }
@@ -38,7 +29,7 @@ impl<P: Plant> CardOrder<P> {
     pub fn into_below(self) -> P
         ensures { result ≡ self.below }
     {
-        let CardOrder { below, table: _ } = self;
+        let CardOrder { below, .. } = self;
         below
     }
 
@@ -55,16 +46,16 @@ impl<P: Plant> CardOrder<P> {
     fn channel_below(&self, channel: u8) -> Option<u8>
         ensures { MatchOption result (NoChannel (order_means P.Plant.meaning self.now) channel) (λ k. ChannelStands (carded self.now.table.entries) (P.Plant.meaning self.now.below) channel k) }
     {
-        if (1 <= channel) & (channel <= 16) {
-            Some(self.table.entry(channel))
-        } else {
-            None
-        }
+        (1..=16)
+            .contains(&channel)
+            .then(|| self.table.entry(channel))
     }
 
-    // Where the run stands below.
-    fn run_below(&self, run: Run) -> Standing
-        ensures { elim result [ Unfit ↦ OutOfRange (order_means P.Plant.meaning self.now) run | Lacking ↦ AllClosed (order_means P.Plant.meaning self.now) run | At s ↦ RunStands (carded self.now.table.entries) (P.Plant.meaning self.now.below) run s × (first_taken (order_means P.Plant.meaning self.now) run ≡ first_taken (P.Plant.meaning self.now.below) s) ] }
+    // The run that stands for it below, or why there is none: `lacking` where the plant below lacks the channel.
+    fn run_below(&self, run: Run, lacking: PlantRefusal) -> Result<Run, PlantRefusal>
+        ensures { MatchResult result
+            (λ s. RunStands (carded self.now.table.entries) (P.Plant.meaning self.now.below) run s × (first_taken (order_means P.Plant.meaning self.now) run ≡ first_taken (P.Plant.meaning self.now.below) s))
+            (λ why. ((why ≡ PlantRefusal.OutOfRange) × OutOfRange (order_means P.Plant.meaning self.now) run) ⊎ ((why ≡ lacking) × AllClosed (order_means P.Plant.meaning self.now) run)) }
     {
         let size = self.below.size();
         let shown = Size {
@@ -72,13 +63,13 @@ impl<P: Plant> CardOrder<P> {
             ..size
         };
         if !run.fits(shown) {
-            return Standing::Unfit;
+            return Err(PlantRefusal::OutOfRange);
         }
         let channel = self.table.entry(run.channel);
         if size.channels < channel {
-            return Standing::Lacking;
+            return Err(lacking);
         }
-        Standing::At(Run { channel, ..run })
+        Ok(Run { channel, ..run })
     }
 }
 
@@ -99,17 +90,13 @@ impl<P: Plant> Plant for CardOrder<P> {
     }
 
     fn closed(&self, link: u8, channel: u8, hour: u8) -> bool {
-        match self.channel_below(channel) {
-            Some(below) => self.below.closed(link, below, hour),
-            None => true,
-        }
+        self.channel_below(channel)
+            .is_none_or(|below| self.below.closed(link, below, hour))
     }
 
     fn held(&self, link: u8, channel: u8, hour: u8) -> bool {
-        match self.channel_below(channel) {
-            Some(below) => self.below.held(link, below, hour),
-            None => false,
-        }
+        self.channel_below(channel)
+            .is_some_and(|below| self.below.held(link, below, hour))
     }
 
     fn held_count(&self, link: u8) -> u32 {
@@ -117,25 +104,19 @@ impl<P: Plant> Plant for CardOrder<P> {
     }
 
     fn hold(&mut self, run: Run) -> Result<(), PlantRefusal> {
-        match self.run_below(run) {
-            Standing::At(below) => self.below.hold(below),
-            Standing::Lacking => Err(PlantRefusal::CellClosed),
-            Standing::Unfit => Err(PlantRefusal::OutOfRange),
-        }
+        let below = self.run_below(run, PlantRefusal::CellClosed)?;
+        self.below.hold(below)
     }
 
     fn release(&mut self, run: Run) -> Result<(), PlantRefusal> {
-        match self.run_below(run) {
-            Standing::At(below) => self.below.release(below),
-            Standing::Lacking => Err(PlantRefusal::NoSuchRun),
-            Standing::Unfit => Err(PlantRefusal::OutOfRange),
-        }
+        let below = self.run_below(run, PlantRefusal::NoSuchRun)?;
+        self.below.release(below)
     }
 
     fn first_taken(&self, run: Run) -> Option<u8> {
-        match self.run_below(run) {
-            Standing::At(below) => self.below.first_taken(below),
-            Standing::Lacking | Standing::Unfit => Some(run.first),
+        match self.run_below(run, PlantRefusal::CellClosed) {
+            Ok(below) => self.below.first_taken(below),
+            Err(_) => Some(run.first),
         }
     }
 }

@@ -1,37 +1,30 @@
-ghost use Rattle.std.specs.Prelude.{◌≡◌, ◌-◌, ◌<◌, ◌≤◌, true, false, MatchResult, nat_eq, slice_index};
-ghost use Rattle.calendar.specs.Week.{any};
+ghost use Rattle.std.specs.Prelude.{◌≡◌, ◌-◌, ◌≤◌, true, false, not, ◌||◌, ◌==◌, MatchResult, slice_index};
+ghost use Rattle.std.specs.List.{list_any};
 ghost use Rattle.calendar.specs.Numbers.{making_number};
-ghost use Rattle.calendar.specs.Layers.{disordered};
+ghost use Rattle.calendar.specs.Layers.{disordered, named};
 
 use calendar::refusal::MakingRefusal;
 
 // The table of a card order: sixteen different numbers from 1 to 16.
-#[derive(Clone, Copy)]
+#[derive(Clone, Copy, Debug, PartialEq, Eq)]
 pub struct CardTable {
     entries: [u8; 16],
     ghost ordered: { disordered entries ≡ false },
 }
 
-// Whether the entry stands earlier too.
-fn repeats(order: &[u8; 16], i: usize) -> bool
-    requires { i < 16 }
-    ensures { result ≡ any i (λ j. nat_eq (slice_index order.now j) (slice_index order.now i)) }
+// Whether the entry is no number from 1 to 16, or stands earlier too.
+fn is_faulty(entry: u8, earlier: &[u8]) -> bool
+    ensures { result ≡ (not (named entry) || list_any (λ other. other == entry) earlier.now) }
 {
-    for j in 0..i {
-        if order[j] == order[i] {
-            return true;
-        }
-    }
-    false
+    !(1..=16).contains(&entry) || earlier.contains(&entry)
 }
 
-// Whether some entry is no number from 1 to 16, or stands earlier too.
+// Whether some entry is faulty.
 fn is_disordered(order: &[u8; 16]) -> bool
     ensures { result ≡ disordered order.now }
 {
-    for i in 0..16usize {
-        let named = (1 <= order[i]) & (order[i] <= 16);
-        if !named | repeats(order, i) {
+    for (i, entry) in order.iter().enumerate() {
+        if is_faulty(*entry, &order[..i]) {
             return true;
         }
     }
@@ -50,7 +43,8 @@ impl CardTable {
 
     // What the table says of a channel from 1 to 16.
     pub(crate) fn entry(&self, channel: u8) -> u8
-        requires { (1 ≤ channel) × (channel ≤ 16) }
+        requires low { 1 ≤ channel }
+        requires high { channel ≤ 16 }
         ensures { result ≡ slice_index self.now.entries (channel - 1) }
     {
         self.entries[channel as usize - 1]

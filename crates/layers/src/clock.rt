@@ -28,7 +28,7 @@ impl<P: Plant> Clock<P> {
     pub fn into_below(self) -> P
         ensures { result ≡ self.below }
     {
-        let Clock { below, table: _ } = self;
+        let Clock { below, .. } = self;
         below
     }
 
@@ -45,25 +45,17 @@ impl<P: Plant> Clock<P> {
     fn hour_below(&self, hour: u8) -> Option<u8>
         ensures { MatchOption result (NoHour (clock_means P.Plant.meaning self.now) hour) (λ k. HourStands (clocked self.now.table.hours) (P.Plant.meaning self.now.below) hour k) }
     {
-        if hour < 168 {
-            Some(self.table.moved(hour))
-        } else {
-            None
-        }
+        (hour < 168).then(|| self.table.moved(hour))
     }
 
     // The run that stands for it below, if it begins in the week.
     fn run_below(&self, run: Run) -> Option<Run>
         ensures { MatchOption result (OutOfRange (clock_means P.Plant.meaning self.now) run) (λ s. RunStands (clocked self.now.table.hours) (P.Plant.meaning self.now.below) run s × (first_taken (clock_means P.Plant.meaning self.now) run ≡ unmoved self.now.table.hours (first_taken (P.Plant.meaning self.now.below) s))) }
     {
-        if run.first < 168 {
-            Some(Run {
-                first: self.table.moved(run.first),
-                ..run
-            })
-        } else {
-            None
-        }
+        (run.first < 168).then(|| Run {
+            first: self.table.moved(run.first),
+            ..run
+        })
     }
 }
 
@@ -81,17 +73,13 @@ impl<P: Plant> Plant for Clock<P> {
     }
 
     fn closed(&self, link: u8, channel: u8, hour: u8) -> bool {
-        match self.hour_below(hour) {
-            Some(below) => self.below.closed(link, channel, below),
-            None => true,
-        }
+        self.hour_below(hour)
+            .is_none_or(|below| self.below.closed(link, channel, below))
     }
 
     fn held(&self, link: u8, channel: u8, hour: u8) -> bool {
-        match self.hour_below(hour) {
-            Some(below) => self.below.held(link, channel, below),
-            None => false,
-        }
+        self.hour_below(hour)
+            .is_some_and(|below| self.below.held(link, channel, below))
     }
 
     fn held_count(&self, link: u8) -> u32 {
@@ -99,17 +87,13 @@ impl<P: Plant> Plant for Clock<P> {
     }
 
     fn hold(&mut self, run: Run) -> Result<(), PlantRefusal> {
-        match self.run_below(run) {
-            Some(below) => self.below.hold(below),
-            None => Err(PlantRefusal::OutOfRange),
-        }
+        let below = self.run_below(run).ok_or(PlantRefusal::OutOfRange)?;
+        self.below.hold(below)
     }
 
     fn release(&mut self, run: Run) -> Result<(), PlantRefusal> {
-        match self.run_below(run) {
-            Some(below) => self.below.release(below),
-            None => Err(PlantRefusal::OutOfRange),
-        }
+        let below = self.run_below(run).ok_or(PlantRefusal::OutOfRange)?;
+        self.below.release(below)
     }
 
     fn first_taken(&self, run: Run) -> Option<u8> {

@@ -8,25 +8,18 @@ use calendar::hours::hour_after;
 use calendar::refusal::MakingRefusal;
 
 // A clock's table: how many hours the plant below is ahead.
-#[derive(Clone, Copy)]
+#[derive(Clone, Copy, Debug, PartialEq, Eq)]
 pub struct Offset {
     hours: u8,
     ghost week: { hours < 168 },
 }
 
-// Whether an offset may have so many hours.
-fn in_week(hours: u32) -> bool
-    ensures answer { offset_number hours ≡ (if result then 0 else 13) }
-    ensures week { result ≡ true → hours < 168 }
-{
-    hours < 168
-}
-
 impl Offset {
+    #[tactic(auto, unfolding(calendar::specs::Making::offset_number))]
     pub fn new(hours: u32) -> Result<Offset, MakingRefusal>
         ensures { MatchResult result (λ o. (offset_number hours ≡ 0) × (o.hours ≡ hours)) (λ e. offset_number hours ≡ making_number e) }
     {
-        if in_week(hours) {
+        if hours < 168 {
             Ok(Offset { hours: hours as u8 })
         } else {
             Err(MakingRefusal::BadTable)
@@ -44,9 +37,6 @@ impl Offset {
     pub(crate) fn unmoved(self, found: Option<u8>) -> Option<u8>
         ensures { result ≡ unmoved self.hours found }
     {
-        match found {
-            Some(hour) => Some(hour_after(hour, 168 - self.hours)),
-            None => None,
-        }
+        found.map(|hour| hour_after(hour, 168 - self.hours))
     }
 }

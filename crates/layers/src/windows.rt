@@ -6,7 +6,6 @@ ghost use Rattle.layers.specs.Below.{Passed, before_window};
 ghost use Rattle.layers.specs.Means.{windows_means};
 
 use super::window_table::WindowTable;
-use calendar::hours::hour_after;
 use calendar::refusal::PlantRefusal;
 use calendar::run::{Run, Size};
 use plant::Plant;
@@ -23,14 +22,7 @@ pub struct Windows<P> {
 fn before_window(run: Run, part: Run, found: Option<u8>) -> Option<u8>
     ensures { result ≡ before_window run part.hours found }
 {
-    match found {
-        Some(hour) => Some(hour),
-        None => if part.hours < run.hours {
-            Some(hour_after(run.first, part.hours))
-        } else {
-            None
-        },
-    }
+    found.or_else(|| run.hour_at(part.hours))
 }
 
 impl<P: Plant> Windows<P> {
@@ -44,7 +36,7 @@ impl<P: Plant> Windows<P> {
     pub fn into_below(self) -> P
         ensures { result ≡ self.below }
     {
-        let Windows { below, table: _ } = self;
+        let Windows { below, .. } = self;
         below
     }
 
@@ -75,11 +67,7 @@ impl<P: Plant> Windows<P> {
             return None;
         }
         let open = self.table.open_hours(run);
-        if open == 0 {
-            None
-        } else {
-            Some(Run { hours: open, ..run })
-        }
+        (open > 0).then_some(Run { hours: open, ..run })
     }
 }
 
@@ -97,7 +85,7 @@ impl<P: Plant> Plant for Windows<P> {
     }
 
     fn closed(&self, link: u8, channel: u8, hour: u8) -> bool {
-        self.plant_below().closed(link, channel, hour) | self.table.shuts(link, hour)
+        self.plant_below().closed(link, channel, hour) || self.table.shuts(link, hour)
     }
 
     fn held(&self, link: u8, channel: u8, hour: u8) -> bool {

@@ -1,4 +1,4 @@
-use Rattle.std.proofs.Common.{◌≡◌, sym, ap, ◌∙◌, arith}
+use Rattle.std.proofs.Common.{◌≡◌, inl, inr, sym, refl, ap, ◌∙◌, arith}
 use Rattle.calendar.specs.Layers.{carded, card}
 use Rattle.calendar.proofs.Carded.{order_of, proper_named, named_parts}
 use Rattle.layers.proofs.OutOfRange.{out_of_range}
@@ -11,7 +11,7 @@ returns-then-not-fits g c =
     let e = s.table.entries in
     let m = g.P.Plant.meaning s.below in
     let fit = proper_sixteen e (order_of e s.table.ordered) m (g.P.Plant.sound s.below) c.args.run c.size-size.result c.size-size.ensures ∙ sym c.fits.ensures in
-    out_of_range (carded e m) c.args.run (fit ∙ c.if-not-fits.true)
+    inl (refl, out_of_range (carded e m) c.args.run (fit ∙ c.if-not-fits.true))
 
 pub entry-channel-requires : goal.entry-channel-requires
 entry-channel-requires g c =
@@ -21,7 +21,7 @@ entry-channel-requires g c =
     let m = g.P.Plant.meaning s.below in
     let fit = proper_sixteen e ok m (g.P.Plant.sound s.below) c.args.run c.size-size.result c.size-size.ensures ∙ sym c.fits.ensures in
     let p = named_parts c.args.run.channel (proper_named e ok m c.args.run (fit ∙ c.if-not-fits.false)) in
-    (p.0, p.1)
+    record { low = p.0; high = p.1 }
 
 pub returns-then-size-channel : goal.returns-then-size-channel
 unfolding card
@@ -33,7 +33,7 @@ returns-then-size-channel g c =
     let sound = g.P.Plant.sound s.below in
     let fit = proper_sixteen e ok m sound c.args.run c.size-size.result c.size-size.ensures ∙ sym c.fits.ensures in
     let channels : c.size-size.result.channels ≡ m.channels = ap (λ z. z.channels) c.size-size.ensures in
-    all_closed e ok m sound c.args.run (fit ∙ c.if-not-fits.false) (omega (arith, channels, c.entry-channel.ensures, c.if-size-channel.true))
+    inr (refl, all_closed e ok m sound c.args.run (fit ∙ c.if-not-fits.false) (omega (arith, channels, c.entry-channel.ensures, c.if-size-channel.true)))
 
 pub returns : goal.returns
 unfolding card

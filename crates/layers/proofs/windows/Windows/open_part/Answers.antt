@@ -1,6 +1,7 @@
-use Rattle.std.proofs.Common.{sym, ◌∙◌, arith}
+use Rattle.std.proofs.Common.{◌≡◌, Option, cond, ltb, Some, None, sym, ◌∙◌, rules}
+use Rattle.calendar.specs.declared.run.Run.{Run}
 use Rattle.calendar.proofs.Plants.{proper_size}
-use Rattle.layers.proofs.TakenWindowed.{taken_unfit, taken_shut, first_windowed}
+use Rattle.layers.proofs.TakenWindowed.{cut, taken_unfit, part_stands}
 use Rattle.layers.proofs.windows.Windows.open_part.Goals as goal
 
 pub returns-then-not-fits : goal.returns-then-not-fits
@@ -11,18 +12,12 @@ returns-then-not-fits g c =
     let fit = sym (c.fits.ensures ∙ proper_size m r c.size.result c.size.ensures) ∙ c.if-not-fits.true in
     sym (taken_unfit s.table.windows s.table.count m r fit)
 
-pub returns-then-open-eq0 : goal.returns-then-open-eq0
-returns-then-open-eq0 g c =
+pub returns : goal.returns
+returns g c =
     let s = c.args.self.now in
     let m = g.P.Plant.meaning s.below in
     let r = c.args.run in
     let fit = sym (c.fits.ensures ∙ proper_size m r c.size.result c.size.ensures) ∙ c.if-not-fits.false in
-    sym (taken_shut s.table.windows s.table.count m r c.open_hours-open.result fit c.open_hours-open.ensures c.if-open-eq0.true)
-
-pub returns-else-open-eq0 : goal.returns-else-open-eq0
-returns-else-open-eq0 g c =
-    let s = c.args.self.now in
-    let m = g.P.Plant.meaning s.below in
-    let r = c.args.run in
-    let fit = sym (c.fits.ensures ∙ proper_size m r c.size.result c.size.ensures) ∙ c.if-not-fits.false in
-    first_windowed s.table.windows s.table.count m r c.open_hours-open.result fit c.open_hours-open.ensures (omega arith)
+    let k = c.open_hours-open.result in
+    let e : ◌≡◌ {A = Option Run} c.then_some.result (cond (ltb 0 k) (Some (cut r k)) None) = search rules in
+    rw e (part_stands s.table.windows s.table.count m r k fit c.open_hours-open.ensures)
