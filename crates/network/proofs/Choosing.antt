@@ -1,5 +1,6 @@
 -- Options, and the least and the first of what numbers below n give.
 use Rattle.std.proofs.Common.{◌≡◌, ℕ, zero, suc, ◌+◌, ◌<◌, ◌≤◌, Bool, true, false, cond, ◌⊎◌, Some, None, Option, sym, refl, ap, ◌∙◌, inl, inr, add-one, arith}
+use Rattle.std.specs.Option.{MatchOption, unwrap_or}
 use Rattle.std.proofs.lemmas.Bool.{cases_Bool, cond-true, cond-false, both_ways, cases_order}
 use Rattle.network.specs.Costs.{Kind, Laws}
 use Rattle.network.specs.Method.{better, least_below, first_below}
@@ -18,6 +19,10 @@ passes (Some x) f e = (x, refl, e)
 pub there : {X Y : Type 0} (o : Option X) (f : X → Option Y) (y : Y) → when_there o None f ≡ Some y → (x : X) × (o ≡ Some x) × (f x ≡ Some y)
 there None f y e = absurd (clash None y refl e)
 there (Some x) f y e = (x, refl, e)
+
+pub or_there : {X : Type 0} (o : Option X) (d : X) → unwrap_or o d ≡ when_there o d (λ x. x)
+or_there None d = refl
+or_there (Some x) d = refl
 
 -- ---- the least
 
@@ -118,9 +123,22 @@ pub first_same : (p q : ℕ → Bool) (n : ℕ) → ((i : ℕ) → p i ≡ q i) 
 first_same p q zero h = refl
 first_same p q (suc n) h = ap (λ o. when_there o (cond (p n) (Some n) None) (λ k. Some k)) (first_same p q n h) ∙ ap (λ b. when_there (first_below q n) (cond b (Some n) None) (λ k. Some k)) (h n)
 
--- one number more, after what was found so far
-pub first_more : (p : ℕ → Bool) (i : ℕ) (o r : Option ℕ) (b : Bool) → o ≡ first_below p i → b ≡ p i → r ≡ when_there o (cond b (Some i) None) (λ k. Some k) → r ≡ first_below p (i + 1)
-first_more p i o r b e f q = rw add-one (q ∙ ap (λ x. when_there x (cond b (Some i) None) (λ k. Some k)) e ∙ ap (λ x. when_there (first_below p i) (cond x (Some i) None) (λ k. Some k)) f)
+from_one : (p : ℕ → Bool) (k : ℕ) → p 0 ≡ false → (1 ≤ k → p k ≡ false) → p k ≡ false
+from_one p zero z h = z
+from_one p (suc k) z h = h (omega arith)
 
-pub first_all : (p : ℕ → Bool) (n m : ℕ) (o : Option ℕ) → o ≡ first_below p n → n ≡ m → o ≡ first_below p m
-first_all p n m o e s = e ∙ ap (first_below p) s
+none_below : (p : ℕ → Bool) (n : ℕ) (o : Option ℕ) → first_below p n ≡ o → p 0 ≡ false → ((k : ℕ) → 1 ≤ k → k < n → p k ≡ false) → o ≡ None
+none_below p n None e z h = refl
+none_below p n (Some k) e z h = let (l, g) = first_good p n k e in absurd (both_ways (p k) (from_one p k z (λ a. h k a l)) g)
+
+-- the first of the numbers from 1 on, where 0 does not pass
+pub first_found : (p : ℕ → Bool) (m n : ℕ) (r : Option ℕ) → m ≡ n → p 0 ≡ false
+    → MatchOption r ((k : ℕ) → 1 ≤ k → k < m → p k ≡ false) (λ i. (1 ≤ i) × (i < m) × (p i ≡ true) × ((k : ℕ) → 1 ≤ k → k < i → p k ≡ false)) → r ≡ first_below p n
+first_found p m n None e z h = sym (none_below p n (first_below p n) refl z (λ k a l. h k a (omega arith)))
+first_found p m n (Some i) e z h =
+    let (k, a, l) = first_le p n i (omega (arith, h.1)) h.2 in
+    elim (cases_order k i) [
+      | inl s ↦ sym (a ∙ ap Some s)
+      | inr (inl b) ↦ absurd (both_ways (p k) (from_one p k z (λ d. h.3 k d b)) (first_good p n k a).1)
+      | inr (inr b) ↦ absurd (omega arith)
+    ]

@@ -1,6 +1,7 @@
 ghost use Rattle.std.specs.Prelude.{◌≡◌, true, [], vec_len, MatchResult};
 ghost use Rattle.network.specs.Limits.{is_place, two_places, network_fits};
 ghost use Rattle.network.specs.Making.{WhyNotMade, add_answer, links_after};
+ghost use Rattle.network.specs.Paths.{crossing};
 ghost use Rattle.network.specs.Places.{link_at};
 
 use super::Network;
@@ -77,6 +78,13 @@ impl Network {
         ensures { result ≡ link_at self.now.links.items number }
     {
         numbered(&self.links, number)
+    }
+
+    // Where the link of that number leads from v, if v is an end of it.
+    pub fn leads(&self, v: u8, number: u8) -> Option<u8>
+        ensures { result ≡ crossing self.now (λ _. true) v number }
+    {
+        self.link(number)?.far_end(v)
     }
 
     // One link more, by value, with the next number.
