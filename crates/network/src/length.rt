@@ -33,6 +33,6 @@ impl Cost for Metres {
     }
 
     fn at_most(self, other: Metres) -> bool {
-        self.value <= other.value
+        self <= other
     }
 }

@@ -7,7 +7,7 @@ use crate::refusal::NetworkRefusal;
 mod ends;
 
 // A link joins two different places. Its loss is in hundredths of a decibel.
-#[derive(Clone, Copy)]
+#[derive(Clone, Copy, Debug, PartialEq, Eq)]
 pub struct Link {
     pub one: u8,
     pub two: u8,

@@ -1,4 +1,4 @@
-ghost use Rattle.std.specs.Prelude.{◌≡◌, ◌<◌, ◌++◌, ◌∷◌, [], length, if◌then◌else◌, nat_lt, nat_le, MatchResult};
+ghost use Rattle.std.specs.Prelude.{◌≡◌, ◌<◌, ◌++◌, ◌∷◌, [], length, if◌then◌else◌, nat_lt, ◌≤◌, MatchResult};
 ghost use Rattle.network.specs.Padded.{eight_places};
 
 use std::convert::TryFrom;
@@ -27,21 +27,6 @@ impl Model for Path {
     ghost inverse = { padded };
 
     ghost inverse_ok = { padded_back };
-}
-
-impl PartialEq for Path {
-    ghost use Rattle.std.proofs.Common.{rules};
-    ghost use Rattle.std.specs.Prelude.{nat_eq};
-    ghost use Rattle.std.specs.Cmp.Lexicographic.{pointwise};
-    ghost use Rattle.std.specs.Cmp.Rules.{comparing};
-
-    ghost eq = { λ a b. pointwise nat_eq a b };
-
-    ghost laws = { Prim.search (comparing, rules) };
-
-    fn eq(&self, other: &Path) -> bool {
-        self.links() == other.links()
-    }
 }
 
 impl Path {
@@ -84,3 +69,70 @@ impl Path {
         }
     }
 }
+
+impl TryFrom<&[u8]> for Path {
+    type Error = TooLong;
+
+    ghost try_from_gives = { λ numbers answer. MatchResult answer
+        (λ path. (length numbers.now ≤ 8) × (path ≡ numbers.now))
+        (λ _. 8 < length numbers.now) };
+
+    fn try_from(numbers: &[u8]) -> Result<Path, TooLong> {
+        if numbers.len() > 8 {
+            return Err(TooLong);
+        }
+        let mut path = Path::new();
+        for number in numbers {
+            path.push(*number);
+        }
+        Ok(path)
+    }
+}
+
+// The numbers, with one blank between.
+impl fmt::Display for Path {
+    fn fmt<W: fmt::Write>(&self, f: &mut fmt::Formatter<W>) -> fmt::Result {
+        for (i, number) in self.links().iter().enumerate() {
+            if i > 0 {
+                f.write_str(" ")?;
+            }
+            write!(f, "{number}")?;
+        }
+        Ok(())
+    }
+}
+
+// A derived equality would compare the places beyond the last link as well.
+impl PartialEq for Path {
+    ghost use Rattle.std.specs.Prelude.{nat_eq};
+    ghost use Rattle.std.specs.Cmp.Lexicographic.{pointwise};
+    ghost use Rattle.std.specs.Cmp.Rules.{comparing};
+    ghost use Rattle.std.proofs.Common.{rules};
+
+    ghost eq = { λ a b. pointwise nat_eq a b };
+
+    ghost laws = { Prim.search (comparing, rules) };
+
+    fn eq(&self, other: &Path) -> bool {
+        self.links() == other.links()
+    }
+}
+
+impl Eq for Path {
+    ghost use Rattle.std.specs.Cmp.Rules.{comparing};
+    ghost use Rattle.std.proofs.Common.{rules};
+
+    ghost laws = { Prim.search (comparing, rules) };
+}
+
+// More numbers than a path can have.
+#[derive(Clone, Copy, Debug, PartialEq, Eq)]
+pub struct TooLong;
+
+impl fmt::Display for TooLong {
+    fn fmt<W: fmt::Write>(&self, f: &mut fmt::Formatter<W>) -> fmt::Result {
+        f.write_str("a path has at most eight links")
+    }
+}
+
+impl Error for TooLong {}

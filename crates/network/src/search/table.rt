@@ -43,15 +43,18 @@ impl<C: Copy> Scratch<C> {
 }
 
 impl<C: Cost> Scratch<C> {
-    // Goes from v over a link to w, where j links are ahead, and keeps the cost if it is less than that known at v.
-    fn relax(&mut self, j: u8, v: u8, price: C, w: u8)
-        requires { j < 8 }
-        ensures { self.new.cells.items ≡ slice_set self.old.cells.items ((j + 1) * 33 + v)
-            (better C.kind.at_most (cell_at self.old.cells.items (j + 1) v) (extended C.kind.joined price (cell_at self.old.cells.items j w))) }
+    // The cost of going over a link to w, where j links are ahead.
+    fn by_way_of(&self, j: u8, price: C, w: u8) -> Option<C>
+        ensures { result ≡ extended C.kind.joined price (cell_at self.now.cells.items j w) }
     {
-        let offered = self.cell(j, w).map(|c| price.join(c));
-        let known = self.cell(j + 1, v);
-        self.put(j + 1, v, cheaper(known, offered));
+        self.cell(j, w).map(|c| price.join(c))
+    }
+
+    // Keeps a cost of j links at v, if it is less than that known there.
+    fn offer(&mut self, j: u8, v: u8, cost: Option<C>)
+        ensures { self.new.cells.items ≡ slice_set self.old.cells.items (j * 33 + v) (better C.kind.at_most (cell_at self.old.cells.items j v) cost) }
+    {
+        self.put(j, v, cheaper(self.cell(j, v), cost));
     }
 
     // Offers a link that may be used to both of its ends, in the row after row j.
@@ -66,8 +69,8 @@ impl<C: Cost> Scratch<C> {
             return;
         };
         let price = C::of_link(&link);
-        self.relax(j, link.one, price, link.two);
-        self.relax(j, link.two, price, link.one);
+        self.offer(j + 1, link.one, self.by_way_of(j, price, link.two));
+        self.offer(j + 1, link.two, self.by_way_of(j, price, link.one));
     }
 
     // The row of no links: only the target is where one has to be.
