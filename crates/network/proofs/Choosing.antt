@@ -1,7 +1,8 @@
 -- Options, and the least and the first of what numbers below n give.
-use Rattle.std.proofs.Common.{◌≡◌, ℕ, zero, suc, ◌+◌, ◌<◌, ◌≤◌, Bool, true, false, cond, ◌⊎◌, Some, None, Option, sym, refl, ap, ◌∙◌, inl, inr, add-one, arith}
-use Rattle.std.specs.Option.{MatchOption, unwrap_or}
-use Rattle.std.proofs.lemmas.Bool.{cases_Bool, cond-true, cond-false, both_ways, cases_order}
+use Rattle.std.proofs.Common.{◌≡◌, ℕ, zero, suc, ◌+◌, ◌<◌, ◌≤◌, Bool, true, false, cond, ◌⊎◌, Some, None, Option, sym, refl, ap, ◌∙◌, inl, inr, arith, below_more}
+use Rattle.std.specs.List.{find, range_with_len}
+use Rattle.std.specs.Option.{unwrap_or}
+use Rattle.std.proofs.lemmas.Bool.{cases_Bool, cond-true, cond-false, both_ways, cases_order, cases_lt}
 use Rattle.network.specs.Costs.{Kind, Laws}
 use Rattle.network.specs.Method.{better, least_below, first_below}
 use Rattle.network.specs.Paths.{when_there}
@@ -123,22 +124,23 @@ pub first_same : (p q : ℕ → Bool) (n : ℕ) → ((i : ℕ) → p i ≡ q i) 
 first_same p q zero h = refl
 first_same p q (suc n) h = ap (λ o. when_there o (cond (p n) (Some n) None) (λ k. Some k)) (first_same p q n h) ∙ ap (λ b. when_there (first_below q n) (cond b (Some n) None) (λ k. Some k)) (h n)
 
-from_one : (p : ℕ → Bool) (k : ℕ) → p 0 ≡ false → (1 ≤ k → p k ≡ false) → p k ≡ false
-from_one p zero z h = z
-from_one p (suc k) z h = h (omega arith)
+none_below : (p : ℕ → Bool) (n : ℕ) (o : Option ℕ) → first_below p n ≡ o → ((k : ℕ) → k < n → p k ≡ false) → o ≡ None
+none_below p n None e h = refl
+none_below p n (Some k) e h = let (l, g) = first_good p n k e in absurd (both_ways (p k) (h k l) g)
 
-none_below : (p : ℕ → Bool) (n : ℕ) (o : Option ℕ) → first_below p n ≡ o → p 0 ≡ false → ((k : ℕ) → 1 ≤ k → k < n → p k ≡ false) → o ≡ None
-none_below p n None e z h = refl
-none_below p n (Some k) e z h = let (l, g) = first_good p n k e in absurd (both_ways (p k) (from_one p k z (λ a. h k a l)) g)
-
--- the first of the numbers from 1 on, where 0 does not pass
-pub first_found : (p : ℕ → Bool) (m n : ℕ) (r : Option ℕ) → m ≡ n → p 0 ≡ false
-    → MatchOption r ((k : ℕ) → 1 ≤ k → k < m → p k ≡ false) (λ i. (1 ≤ i) × (i < m) × (p i ≡ true) × ((k : ℕ) → 1 ≤ k → k < i → p k ≡ false)) → r ≡ first_below p n
-first_found p m n None e z h = sym (none_below p n (first_below p n) refl z (λ k a l. h k a (omega arith)))
-first_found p m n (Some i) e z h =
-    let (k, a, l) = first_le p n i (omega (arith, h.1)) h.2 in
-    elim (cases_order k i) [
-      | inl s ↦ sym (a ∙ ap Some s)
-      | inr (inl b) ↦ absurd (both_ways (p k) (from_one p k z (λ d. h.3 k d b)) (first_good p n k a).1)
-      | inr (inr b) ↦ absurd (omega arith)
+-- what is found from a on is the first below the end, where none below a passes
+found : (p : ℕ → Bool) (n a : ℕ) → ((k : ℕ) → k < a → p k ≡ false) → find p (range_with_len a n) ≡ first_below p (n + a)
+found p zero a h = sym (none_below p (0 + a) _ refl (λ k l. h k (omega arith)))
+found p (suc n) a h =
+    elim (cases_Bool (p a)) [
+      | inl e ↦
+          let (k, b, l) = first_le p (suc n + a) a (omega arith) e in
+          let low : a ≤ k = elim (cases_lt k a) [ inl m ↦ absurd (both_ways (p k) (h k m) (first_good p (suc n + a) k b).1) | inr m ↦ m ] in
+          let same : a ≡ k = omega arith in
+          cond-true _ _ _ e ∙ ap Some same ∙ sym b
+      | inr e ↦ (let same : n + (a + 1) ≡ suc n + a = omega arith in cond-false _ _ _ e ∙ found p n (a + 1) (below_more _ _ h e) ∙ ap (first_below p) same)
     ]
+
+-- 0 is the number of no link
+pub found_first : (p : ℕ → Bool) (n : ℕ) → p 0 ≡ false → find p (range_with_len 1 n) ≡ first_below p (suc n)
+found_first p n z = let same : n + 1 ≡ suc n = omega arith in found p n 1 (λ k l. let e : k ≡ 0 = omega arith in ap p e ∙ z) ∙ ap (first_below p) same

@@ -1,10 +1,14 @@
 -- The steps of the walk.
-use Rattle.std.proofs.Common.{◌≡◌, ℕ, zero, suc, ◌+◌, ◌-◌, ◌<◌, ◌≤◌, Bool, false, cond, List, [], ◌∷◌, ◌++◌, length, ltb, Some, None, Option, sym, refl, ap, ◌∙◌, append_assoc, append-nil, arith}
+use Rattle.std.proofs.Common.{◌≡◌, ℕ, zero, suc, ◌+◌, ◌-◌, ◌<◌, ◌≤◌, Bool, false, cond, List, [], ◌∷◌, ◌++◌, length, ltb, vec_len, Some, None, Option, sym, refl, ap, ◌∙◌, append_assoc, append-nil, arith}
 use Rattle.std.proofs.lemmas.Bool.{cond-true, lt-ltb}
 use Rattle.std.proofs.lemmas.List.{length_push}
+use Rattle.std.specs.List.{find, range_with_len}
+use Rattle.network.specs.Costs.{Kind}
 use Rattle.network.specs.Method.{first_below, fit, greedy}
-use Rattle.network.specs.Paths.{when_there, Ground}
-use Rattle.network.proofs.Choosing.{first_same}
+use Rattle.network.specs.Paths.{when_there, Ground, ground}
+use Rattle.network.specs.declared.network.Network.{Network}
+use Rattle.network.proofs.Choosing.{first_same, found_first}
+use Rattle.network.proofs.Crossings.{crossing_absent}
 use Rattle.network.proofs.Tables.{Within}
 
 -- a link fits by the cost of what is ahead of it, where there is any
@@ -18,6 +22,12 @@ fit_by g bound ahead v paid i o e = over (g.hop v i) ∙ sym (ap (λ o. when_the
 
 pub no_fit : {C : Type 0} (g : Ground C) (bound : C) (ahead : ℕ → Option C) (v : ℕ) (paid : C) (i : ℕ) → g.hop v i ≡ None → fit g bound ahead v paid i ≡ false
 no_fit g bound ahead v paid i h = ap (λ o. when_there o false (λ w. when_there (ahead w) false (λ c. g.kind.at_most (g.kind.joined (g.kind.joined paid (g.price i)) c) bound))) h
+
+-- the first number that fits is the one that is found
+pub found_fit : {C : Type 0} (k : Kind C) (net : Network) (free : ℕ → Bool) (bound : C) (ahead : ℕ → Option C) (v : ℕ) (paid : C)
+    → let over : Ground C = ground k net free in find (fit over bound ahead v paid) (range_with_len 1 (vec_len net.links)) ≡ first_below (fit over bound ahead v paid) over.numbers
+found_fit k net free bound ahead v paid =
+    found_first (fit (ground k net free) bound ahead v paid) (vec_len net.links) (no_fit (ground k net free) bound ahead v paid 0 (crossing_absent net free 0 refl v))
 
 -- ---- the walk
 

@@ -1,7 +1,8 @@
-ghost use Rattle.std.specs.Prelude.{◌≡◌, ◌≤◌, None};
+ghost use Rattle.std.specs.Prelude.{◌≡◌, ◌≤◌, None, vec_len};
+ghost use Rattle.std.specs.List.{find, range_with_len};
 ghost use Rattle.network.specs.Flags.{may_use};
 ghost use Rattle.network.specs.Grounds.{ground_of};
-ghost use Rattle.network.specs.Method.{first_below, fit, greedy, cell_at};
+ghost use Rattle.network.specs.Method.{fit, greedy, cell_at};
 ghost use Rattle.network.specs.Paths.{when_there, crossing};
 
 use super::Scratch;
@@ -21,6 +22,7 @@ impl<C: Cost> Scratch<C> {
     fn fits(&self, over: Ground, left: u8, bound: C, v: u8, paid: C, number: u8) -> bool
         ensures { result ≡ fit (ground_of C.kind over.entry) bound (cell_at self.now.cells.items left) v paid number }
     {
+        // A closure for `is_some_and` leaves the proof knowing nothing of these joins.
         let Some(c) = self.ahead(over, left, v, number) else {
             return false;
         };
@@ -29,7 +31,7 @@ impl<C: Cost> Scratch<C> {
 
     // The least number of a link that fits.
     fn first_fit(&self, over: Ground, left: u8, bound: C, v: u8, paid: C) -> Option<u8>
-        ensures { result ≡ first_below (fit (ground_of C.kind over.entry) bound (cell_at self.now.cells.items left) v paid) (ground_of C.kind over.entry).numbers }
+        ensures { result ≡ find (fit (ground_of C.kind over.entry) bound (cell_at self.now.cells.items left) v paid) (range_with_len 1 (vec_len over.entry.net.now.links)) }
     {
         (1..over.link_count() + 1).find(|number| self.fits(over, left, bound, v, paid, *number))
     }
