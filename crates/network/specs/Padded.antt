@@ -5,7 +5,7 @@
 --   eight_places xs    the numbers xs in eight places
 --   padded xs          the path of the numbers xs
 use Rattle.std.specs.Prelude.{◌≡◌, ℕ, zero, suc, ◌+◌, ◌-◌, ◌≤◌, List, [], ◌∷◌, ◌++◌, length, take, replicate, slice_index}
-use Rattle.std.proofs.Common.{refl, sym, ap, ◌∙◌, arith, length-take}
+use Rattle.std.proofs.Common.{refl, ap, ◌∙◌, arith, length-take}
 use Rattle.network.specs.declared.path.Path.TheInside.{Inside}
 
 abbrev pub numbers : Inside → List ℕ

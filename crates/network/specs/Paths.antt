@@ -12,7 +12,7 @@
 --   total g p              the cost of p: the costs of its links joined
 --   Allowed hop m s t p    p is a path from s to t: 1 to m links that lead from s to t and touch no place twice
 --   is_path hop m s t p    the same, as a test
-use Rattle.std.specs.Prelude.{◌≡◌, ℕ, suc, ◌≤◌, Bool, true, false, cond, ◌&&◌, List, [], ◌∷◌, length, Some, None, vec_items, vec_len, Option, ◌==◌, nat_eq, nat_le, nat_lt}
+use Rattle.std.specs.Prelude.{◌≡◌, ℕ, suc, ◌≤◌, Bool, true, false, if◌then◌else◌, ◌&&◌, List, [], ◌∷◌, length, Some, None, vec_items, vec_len, Option, ◌==◌, nat_eq, nat_le, nat_lt}
 use Rattle.network.specs.Costs.{Kind}
 use Rattle.network.specs.Places.{link_at}
 use Rattle.network.specs.declared.link.Link.{Link}
@@ -23,10 +23,10 @@ when_there None d f = d
 when_there (Some x) d f = f x
 
 abbrev pub far_end : Link → ℕ → Option ℕ
-far_end l v = cond (l.one == v) (Some l.two) (cond (l.two == v) (Some l.one) None)
+far_end l v = if l.one == v then Some l.two else (if l.two == v then Some l.one else None)
 
 unfoldable pub crossing : Network → (ℕ → Bool) → ℕ → ℕ → Option ℕ
-crossing net free v i = when_there (link_at (vec_items net.links) i) None (λ l. cond (free i) (far_end l v) None)
+crossing net free v i = when_there (link_at (vec_items net.links) i) None (λ l. if free i then far_end l v else None)
 
 unfoldable pub price_of : {C : Type 0} → Kind C → Network → ℕ → C
 price_of k net i = when_there (link_at (vec_items net.links) i) k.none k.price
@@ -51,11 +51,11 @@ touched hop v (i ∷ p) = v ∷ when_there (hop v i) [] (λ w. touched hop w p)
 
 abbrev pub has : ℕ → List ℕ → Bool
 has v [] = false
-has v (w ∷ ws) = cond (v == w) true (has v ws)
+has v (w ∷ ws) = if v == w then true else has v ws
 
 abbrev pub no_twice : List ℕ → Bool
 no_twice [] = true
-no_twice (v ∷ vs) = cond (has v vs) false (no_twice vs)
+no_twice (v ∷ vs) = if has v vs then false else no_twice vs
 
 abbrev pub total : {C : Type 0} → Ground C → List ℕ → C
 total g [] = g.kind.none

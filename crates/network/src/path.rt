@@ -1,10 +1,10 @@
 ghost use Rattle.std.specs.Prelude.{◌≡◌, ◌<◌, ◌++◌, ◌∷◌, [], length, if◌then◌else◌, nat_lt, ◌≤◌, MatchResult};
-ghost use Rattle.network.specs.Padded.{eight_places};
 
-use std::convert::TryFrom;
 use std::error::Error;
 use std::fmt;
 use std::marker::Model;
+
+mod reads;
 
 // A list of at most eight link numbers.
 #[derive(Clone, Copy, Debug)]
@@ -40,25 +40,6 @@ impl Path {
         }
     }
 
-    pub fn links(&self) -> &[u8]
-        ensures { result.now ≡ self.now }
-    {
-        &self.links[..self.count as usize]
-    }
-
-    pub fn count(&self) -> u8
-        ensures { result ≡ length self.now }
-    {
-        self.count
-    }
-
-    // Eight places: the numbers, and zeros after the last.
-    pub fn numbers(&self) -> [u8; 8]
-        ensures { result ≡ eight_places self.now }
-    {
-        self.links
-    }
-
     // One link more at the end; a path of eight stays as it is.
     pub fn push(&mut self, number: u8)
         ensures { self.new ≡ (if nat_lt (length self.old) 8 then self.old ++ number ∷ [] else self.old) }
@@ -89,20 +70,7 @@ impl TryFrom<&[u8]> for Path {
     }
 }
 
-// The numbers, with one blank between.
-impl fmt::Display for Path {
-    fn fmt<W: fmt::Write>(&self, f: &mut fmt::Formatter<W>) -> fmt::Result {
-        for (i, number) in self.links().iter().enumerate() {
-            if i > 0 {
-                f.write_str(" ")?;
-            }
-            write!(f, "{number}")?;
-        }
-        Ok(())
-    }
-}
-
-// A derived equality would compare the places beyond the last link as well.
+// Derived, it would compare all eight places, and the proof of that stays open.
 impl PartialEq for Path {
     ghost use Rattle.std.specs.Prelude.{nat_eq};
     ghost use Rattle.std.specs.Cmp.Lexicographic.{pointwise};

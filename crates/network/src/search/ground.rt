@@ -42,6 +42,5 @@ impl Ground<'_> {
 pub fn price<C: Cost>(net: &Network, number: u8) -> C
     ensures { result ≡ price_of C.kind net.now number }
 {
-    net.link(number)
-        .map_or(C::zero(), |link| C::of_link(&link))
+    net.link(number).map_or(C::zero(), |link| C::of_link(&link))
 }

@@ -1,4 +1,4 @@
-use Rattle.std.proofs.Common.{◌≤◌, Some, sym, ap, ◌∙◌, arith}
+use Rattle.std.proofs.Common.{Some, sym, ap, ◌∙◌}
 use Rattle.network.specs.Flags.{may_use}
 use Rattle.network.proofs.Finds.{chosen_outside, chosen_nothing, chosen_walked, picked_few, named_rightly}
 use Rattle.network.proofs.search.chosen_path.Goals as goal
