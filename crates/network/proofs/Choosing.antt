@@ -1,6 +1,8 @@
 -- Options, and the least and the first of what numbers below n give.
-use Rattle.std.proofs.Common.{◌≡◌, ℕ, zero, suc, ◌+◌, ◌<◌, ◌≤◌, Bool, true, false, cond, ◌⊎◌, Some, None, Option, sym, refl, ap, ◌∙◌, inl, inr, add-one, arith}
-use Rattle.std.proofs.lemmas.Bool.{cases_Bool, cond-true, cond-false, both_ways, cases_order}
+use Rattle.std.proofs.Common.{◌≡◌, ℕ, zero, suc, ◌+◌, ◌<◌, ◌≤◌, Bool, true, false, cond, ◌⊎◌, Some, None, Option, sym, refl, ap, ◌∙◌, inl, inr, arith, below_more}
+use Rattle.std.specs.List.{find, range_with_len}
+use Rattle.std.specs.Option.{unwrap_or}
+use Rattle.std.proofs.lemmas.Bool.{cases_Bool, cond-true, cond-false, both_ways, cases_order, cases_lt}
 use Rattle.network.specs.Costs.{Kind, Laws}
 use Rattle.network.specs.Method.{better, least_below, first_below}
 use Rattle.network.specs.Paths.{when_there}
@@ -18,6 +20,10 @@ passes (Some x) f e = (x, refl, e)
 pub there : {X Y : Type 0} (o : Option X) (f : X → Option Y) (y : Y) → when_there o None f ≡ Some y → (x : X) × (o ≡ Some x) × (f x ≡ Some y)
 there None f y e = absurd (clash None y refl e)
 there (Some x) f y e = (x, refl, e)
+
+pub or_there : {X : Type 0} (o : Option X) (d : X) → unwrap_or o d ≡ when_there o d (λ x. x)
+or_there None d = refl
+or_there (Some x) d = refl
 
 -- ---- the least
 
@@ -118,9 +124,23 @@ pub first_same : (p q : ℕ → Bool) (n : ℕ) → ((i : ℕ) → p i ≡ q i) 
 first_same p q zero h = refl
 first_same p q (suc n) h = ap (λ o. when_there o (cond (p n) (Some n) None) (λ k. Some k)) (first_same p q n h) ∙ ap (λ b. when_there (first_below q n) (cond b (Some n) None) (λ k. Some k)) (h n)
 
--- one number more, after what was found so far
-pub first_more : (p : ℕ → Bool) (i : ℕ) (o r : Option ℕ) (b : Bool) → o ≡ first_below p i → b ≡ p i → r ≡ when_there o (cond b (Some i) None) (λ k. Some k) → r ≡ first_below p (i + 1)
-first_more p i o r b e f q = rw add-one (q ∙ ap (λ x. when_there x (cond b (Some i) None) (λ k. Some k)) e ∙ ap (λ x. when_there (first_below p i) (cond x (Some i) None) (λ k. Some k)) f)
+none_below : (p : ℕ → Bool) (n : ℕ) (o : Option ℕ) → first_below p n ≡ o → ((k : ℕ) → k < n → p k ≡ false) → o ≡ None
+none_below p n None e h = refl
+none_below p n (Some k) e h = let (l, g) = first_good p n k e in absurd (both_ways (p k) (h k l) g)
 
-pub first_all : (p : ℕ → Bool) (n m : ℕ) (o : Option ℕ) → o ≡ first_below p n → n ≡ m → o ≡ first_below p m
-first_all p n m o e s = e ∙ ap (first_below p) s
+-- what is found from a on is the first below the end, where none below a passes
+found : (p : ℕ → Bool) (n a : ℕ) → ((k : ℕ) → k < a → p k ≡ false) → find p (range_with_len a n) ≡ first_below p (n + a)
+found p zero a h = sym (none_below p (0 + a) _ refl (λ k l. h k (omega arith)))
+found p (suc n) a h =
+    elim (cases_Bool (p a)) [
+      | inl e ↦
+          let (k, b, l) = first_le p (suc n + a) a (omega arith) e in
+          let low : a ≤ k = elim (cases_lt k a) [ inl m ↦ absurd (both_ways (p k) (h k m) (first_good p (suc n + a) k b).1) | inr m ↦ m ] in
+          let same : a ≡ k = omega arith in
+          cond-true _ _ _ e ∙ ap Some same ∙ sym b
+      | inr e ↦ (let same : n + (a + 1) ≡ suc n + a = omega arith in cond-false _ _ _ e ∙ found p n (a + 1) (below_more _ _ h e) ∙ ap (first_below p) same)
+    ]
+
+-- 0 is the number of no link
+pub found_first : (p : ℕ → Bool) (n : ℕ) → p 0 ≡ false → find p (range_with_len 1 n) ≡ first_below p (suc n)
+found_first p n z = let same : n + 1 ≡ suc n = omega arith in found p n 1 (λ k l. let e : k ≡ 0 = omega arith in ap p e ∙ z) ∙ ap (first_below p) same

@@ -126,3 +126,8 @@ price_is k net i l e = ap (λ o. when_there o k.none k.price) e
 pub price_absent : {C : Type 0} (k : Kind C) (net : Network) (i : ℕ) → link_at net.links.items i ≡ None → price_of k net i ≡ k.none
 unfolding price_of
 price_absent k net i e = ap (λ o. when_there o k.none k.price) e
+
+-- a link that may be used leads where it would if all might be
+pub crossing_free : (net : Network) (free : ℕ → Bool) (i : ℕ) → free i ≡ true → (v : ℕ) → crossing net free v i ≡ crossing net (λ _. true) v i
+unfolding crossing
+crossing_free net free i f v = ap (λ b. when_there (link_at net.links.items i) None (λ l. cond b (far_end l v) None)) f

@@ -62,7 +62,7 @@ module _ {C : Type 0} (k : Kind C) (laws : Laws k) (net : Network) (free : ℕ �
     same_picks : picks k.at_most (cell_at cells) s net.hops ≡ picks k.at_most (table g t) s net.hops
     same_picks = picks_same k.at_most (cell_at cells) (table g t) s net.hops (λ j l. tabled j s l start_in)
 
-    pub picked_few : (j : ℕ) (best : C) → Some (j, best) ≡ picks k.at_most (cell_at cells) s net.hops → j < 9
+    pub picked_few : (j : ℕ) (best : C) → Some (j, best) ≡ picks k.at_most (cell_at cells) s net.hops → j ≤ 8
     picked_few j best e = omega (arith, (picks_some laws (cell_at cells) s net.hops j best (sym e)).few, net.sizes.3)
 
     pub chosen_nothing : None ≡ picks k.at_most (cell_at cells) s net.hops → None ≡ chosen_path k net free s t

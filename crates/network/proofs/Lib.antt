@@ -3,7 +3,6 @@ mod Choosing
 mod Crossings
 pub mod Finds
 mod Flagged
-mod Numbered
 mod Picks
 mod Rows
 mod Steps

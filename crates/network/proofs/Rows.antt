@@ -1,6 +1,7 @@
 -- The rows of the table, cell by cell.
 use Rattle.std.proofs.Common.{◌≡◌, ℕ, ◌+◌, ◌*◌, ◌<◌, ◌≤◌, cond, eqb, List, length, set, Some, None, Option, sym, refl, ap, ◌∙◌, inl, inr, add-one, arith, length-set, get_or-set_other, get_or-set_same, below_more}
-use Rattle.std.proofs.lemmas.Bool.{eq-eqb, ne_eqb, cases_eq, cond-true, cond-false}
+use Rattle.std.proofs.lemmas.List.{get_or_past}
+use Rattle.std.proofs.lemmas.Bool.{eq-eqb, ne_eqb, cases_eq, cases_lt, cond-true, cond-false}
 use Rattle.network.specs.Method.{better, least_below, extended, offer, table, cell_at, Relaxed, NextRow, Tabled}
 use Rattle.network.specs.Paths.{when_there, far_end, Ground}
 use Rattle.network.specs.declared.link.Link.{Link}
@@ -15,6 +16,14 @@ cell_same cells j v x len h k = get_or-set_same cells (j * 33 + v) x None (omega
 pub cell_other : {C : Type 0} (cells : List (Option C)) (j v k w : ℕ) (x : Option C) → v < 33 → w < 33 → ((k ≡ j) → (w ≡ v) → ⊥) → cell_at (set cells (j * 33 + v) x) k w ≡ cell_at cells k w
 cell_other cells j v k w x h l n =
     get_or-set_other cells (j * 33 + v) (k * 33 + w) x None (λ e. n (omega arith) (omega arith))
+
+-- a cell is empty once cleared, and beyond the rows all along
+cell_cleared : {C : Type 0} (cells : List (Option C)) (j v : ℕ) → cell_at (set cells (j * 33 + v) None) j v ≡ None
+cell_cleared cells j v =
+    elim (cases_lt (j * 33 + v) (length cells)) [
+      | inl l ↦ get_or-set_same cells (j * 33 + v) None None l
+      | inr l ↦ get_or_past (set cells (j * 33 + v) None) (j * 33 + v) None (omega (arith, length-set cells (j * 33 + v) None))
+    ]
 
 -- ---- one link
 
@@ -152,30 +161,30 @@ row_all g within old mid new j n same here below e = record {
 }
 
 -- one cell more is cleared
-pub cleared_more : {C : Type 0} (start now new : List (Option C)) (j i : ℕ) → length now ≡ 297 → j < 9 → i < 33
+pub cleared_more : {C : Type 0} (start now new : List (Option C)) (j i : ℕ) → i < 33
     → new ≡ set now (j * 33 + i) None
     → ((v : ℕ) → v < i → cell_at now j v ≡ None)
     → ((k v : ℕ) → k < j → v < 33 → cell_at now k v ≡ cell_at start k v)
     → ((v : ℕ) → v < i + 1 → cell_at new j v ≡ None) × ((k v : ℕ) → k < j → v < 33 → cell_at new k v ≡ cell_at start k v)
-cleared_more start now new j i len h l e here below = (
+cleared_more start now new j i l e here below = (
   below_more _ _
       (λ v a. ap (λ cs. cell_at cs j v) e ∙ cell_other now j i j v None l (omega arith) (λ _ f. omega arith) ∙ here v a)
-      (ap (λ cs. cell_at cs j i) e ∙ cell_same now j i None len h l),
+      (ap (λ cs. cell_at cs j i) e ∙ cell_cleared now j i),
   λ k v a b. ap (λ cs. cell_at cs k v) e ∙ cell_other now j i k v None l b (λ f _. omega arith) ∙ below k v a b,
 )
 
 -- the row of no links
-pub row_none : {C : Type 0} (none : C) (now new : List (Option C)) (t : ℕ) → length now ≡ 297 → t < 33 → new ≡ set now (0 * 33 + t) (Some none)
+pub row_none : {C : Type 0} (none : C) (now new : List (Option C)) (t : ℕ) → length now ≡ 297 → new ≡ set now (0 * 33 + t) (Some none)
     → ((v : ℕ) → v < 33 → cell_at now 0 v ≡ None) → (v : ℕ) → v < 33 → cell_at new 0 v ≡ cond (eqb v t) (Some none) None
-row_none none now new t len h e clear v l =
+row_none none now new t len e clear v l =
     elim (cases_eq v t) [
       | inl s ↦
           ap (λ cs. cell_at cs 0 v) e ∙ ap (cell_at (set now (0 * 33 + t) (Some none)) 0) s
-          ∙ cell_same now 0 t (Some none) len (omega arith) h
+          ∙ cell_same now 0 t (Some none) len (omega arith) (omega arith)
           ∙ sym (cond-true _ _ _ (eq-eqb v t s))
       | inr n ↦
           ap (λ cs. cell_at cs 0 v) e
-          ∙ cell_other now 0 t 0 v (Some none) h l (λ _ f. n f)
+          ∙ get_or-set_other now (0 * 33 + t) (0 * 33 + v) (Some none) None (λ h. n (omega arith))
           ∙ clear v l
           ∙ sym (cond-false _ _ _ (ne_eqb v t n))
     ]

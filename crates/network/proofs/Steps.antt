@@ -1,28 +1,33 @@
 -- The steps of the walk.
-use Rattle.std.proofs.Common.{◌≡◌, ℕ, zero, suc, ◌+◌, ◌-◌, ◌<◌, ◌≤◌, Bool, false, cond, ◌≢◌, List, [], ◌∷◌, ◌++◌, length, get_or, take, set, Some, None, Option, sym, refl, ap, ◌∙◌, append_assoc, append-nil, add-one, arith, length-set, get_or-set_other, take-suc-set}
+use Rattle.std.proofs.Common.{◌≡◌, ℕ, zero, suc, ◌+◌, ◌-◌, ◌<◌, ◌≤◌, Bool, false, cond, List, [], ◌∷◌, ◌++◌, length, ltb, vec_len, Some, None, Option, sym, refl, ap, ◌∙◌, append_assoc, append-nil, arith}
+use Rattle.std.proofs.lemmas.Bool.{cond-true, lt-ltb}
+use Rattle.std.proofs.lemmas.List.{length_push}
+use Rattle.std.specs.List.{find, range_with_len}
+use Rattle.network.specs.Costs.{Kind}
 use Rattle.network.specs.Method.{first_below, fit, greedy}
-use Rattle.network.specs.Paths.{when_there, Ground}
-use Rattle.network.proofs.Choosing.{first_same}
+use Rattle.network.specs.Paths.{when_there, Ground, ground}
+use Rattle.network.specs.declared.network.Network.{Network}
+use Rattle.network.proofs.Choosing.{first_same, found_first}
+use Rattle.network.proofs.Crossings.{crossing_absent}
 use Rattle.network.proofs.Tables.{Within}
 
--- what a read of a link and of a cell says of its fit
-pub fit_is : {C : Type 0} (g : Ground C) (bound : C) (ahead : ℕ → Option C) (v : ℕ) (paid : C) (i w : ℕ) (c p x y : C) (r : Bool)
-    → g.hop v i ≡ Some w → ahead w ≡ Some c → p ≡ g.price i → x ≡ g.kind.joined paid p → y ≡ g.kind.joined x c → r ≡ g.kind.at_most y bound → r ≡ fit g bound ahead v paid i
-fit_is g bound ahead v paid i w c p x y r h a e ex ey er =
-    er ∙ ap (λ z. g.kind.at_most z bound) (ey ∙ ap (λ z. g.kind.joined z c) (ex ∙ ap (g.kind.joined paid) e)) ∙ sym (back h a)
+-- a link fits by the cost of what is ahead of it, where there is any
+pub fit_by : {C : Type 0} (g : Ground C) (bound : C) (ahead : ℕ → Option C) (v : ℕ) (paid : C) (i : ℕ) (o : Option C) → o ≡ when_there (g.hop v i) None ahead
+    → fit g bound ahead v paid i ≡ when_there o false (λ c. g.kind.at_most (g.kind.joined (g.kind.joined paid (g.price i)) c) bound)
+fit_by g bound ahead v paid i o e = over (g.hop v i) ∙ sym (ap (λ o. when_there o false (λ c. g.kind.at_most (g.kind.joined (g.kind.joined paid (g.price i)) c) bound)) e)
   where
-    back : g.hop v i ≡ Some w → ahead w ≡ Some c → fit g bound ahead v paid i ≡ g.kind.at_most (g.kind.joined (g.kind.joined paid (g.price i)) c) bound
-    back h a = rw h (rw a)
+    over : (o : Option ℕ) → when_there o false (λ w. when_there (ahead w) false (λ c. g.kind.at_most (g.kind.joined (g.kind.joined paid (g.price i)) c) bound)) ≡ when_there (when_there o None ahead) false (λ c. g.kind.at_most (g.kind.joined (g.kind.joined paid (g.price i)) c) bound)
+    over None = refl
+    over (Some w) = refl
 
 pub no_fit : {C : Type 0} (g : Ground C) (bound : C) (ahead : ℕ → Option C) (v : ℕ) (paid : C) (i : ℕ) → g.hop v i ≡ None → fit g bound ahead v paid i ≡ false
 no_fit g bound ahead v paid i h = ap (λ o. when_there o false (λ w. when_there (ahead w) false (λ c. g.kind.at_most (g.kind.joined (g.kind.joined paid (g.price i)) c) bound))) h
 
-pub no_fit_ahead : {C : Type 0} (g : Ground C) (bound : C) (ahead : ℕ → Option C) (v : ℕ) (paid : C) (i w : ℕ) → g.hop v i ≡ Some w → ahead w ≡ None → fit g bound ahead v paid i ≡ false
-no_fit_ahead g bound ahead v paid i w h a = rw h (rw a)
-
--- no link has number 0
-pub first_start : (p : ℕ → Bool) → p 0 ≡ false → None ≡ first_below p 1
-first_start p h = sym (ap (λ b. cond b (Some 0) None) h)
+-- the first number that fits is the one that is found
+pub found_fit : {C : Type 0} (k : Kind C) (net : Network) (free : ℕ → Bool) (bound : C) (ahead : ℕ → Option C) (v : ℕ) (paid : C)
+    → let over : Ground C = ground k net free in find (fit over bound ahead v paid) (range_with_len 1 (vec_len net.links)) ≡ first_below (fit over bound ahead v paid) over.numbers
+found_fit k net free bound ahead v paid =
+    found_first (fit (ground k net free) bound ahead v paid) (vec_len net.links) (no_fit (ground k net free) bound ahead v paid 0 (crossing_absent net free 0 refl v))
 
 -- ---- the walk
 
@@ -30,48 +35,50 @@ module _ {C : Type 0} (g : Ground C) (bound : C) (rows : ℕ → ℕ → Option 
   abbrev way : ℕ → ℕ → C → List ℕ
   way = greedy g bound rows
 
-  -- what is written and the way still to go are the whole
-  abbrev pub Walked : List ℕ → ℕ → ℕ → C → Type 0
-  Walked links i v paid = (length links ≡ 8) × (take i links ++ way (k - i) v paid ≡ whole) × ((j : ℕ) → i ≤ j → get_or links j 0 ≡ 0)
+  -- the way so far and the way still to go are the whole
+  pub record Walked (path : List ℕ) (i v : ℕ) (paid : C) : Type 0 where
+    pub long : length path ≡ i
+    pub joins : path ++ way (k - i) v paid ≡ whole
 
-  pub walk_more : (links : List ℕ) (i v w n : ℕ) (paid more : C) → k < 9 → i < k → Walked links i v paid
+  pub walk_more : (path more_path : List ℕ) (i v w n : ℕ) (paid more : C) → k ≤ 8 → i < k → Walked path i v paid
       → Some n ≡ first_below (fit g bound (rows (k - i - 1)) v paid) g.numbers
+      → more_path ≡ cond (ltb (length path) 8) (path ++ n ∷ []) path
       → more ≡ g.kind.joined paid (g.price n) → w ≡ when_there (g.hop v n) v (λ w. w)
-      → Walked (set links i n) (i + 1) w more
-  walk_more links i v w n paid more few h inv f p q =
-      let left : k - i ≡ suc (k - i - 1) = omega arith in
-      let then : k - (i + 1) ≡ k - i - 1 = omega arith in (
-        length_kept,
-        ap (λ x. take x (set links i n) ++ way (k - (i + 1)) w more) (add-one i)
-            ∙ ap (λ x. x ++ way (k - (i + 1)) w more) (take-suc-set links i n (omega (arith, inv.0)))
-            ∙ append_assoc (take i links) (n ∷ []) (way (k - (i + 1)) w more)
-            ∙ ap (λ x. take i links ++ (n ∷ way x w more)) then
-            ∙ ap (λ x. take i links ++ (n ∷ way (k - i - 1) w x)) p
-            ∙ ap (λ x. take i links ++ (n ∷ way (k - i - 1) x (g.kind.joined paid (g.price n)))) q
-            ∙ ap (λ o. take i links ++ when_there o [] (λ n. n ∷ way (k - i - 1) (when_there (g.hop v n) v (λ w. w)) (g.kind.joined paid (g.price n)))) f
-            ∙ sym (ap (λ x. take i links ++ way x v paid) left)
-            ∙ inv.1,
-        λ j a. let other : j ≢ i = omega arith in get_or-set_other links i j n 0 other ∙ inv.2 j (omega arith),
-      )
+      → Walked more_path (i + 1) w more
+  walk_more path more_path i v w n paid more few h inv f e p q = record { long = ap length one_more ∙ length_push path n ∙ ap (λ x. x + 1) inv.long; joins = joins }
     where
-      length_kept : length (set links i n) ≡ 8
-      length_kept = simp length-set inv.0
+      one_more : more_path ≡ path ++ n ∷ []
+      one_more = e ∙ cond-true _ _ _ (lt-ltb (length path) 8 (omega (arith, inv.long)))
 
-  pub walk_stops : (links : List ℕ) (i v : ℕ) (paid : C) → i < k → Walked links i v paid → None ≡ first_below (fit g bound (rows (k - i - 1)) v paid) g.numbers → take i links ≡ whole
-  walk_stops links i v paid h inv f =
+      left : k - i ≡ suc (k - i - 1)
+      left = omega arith
+
+      then : k - (i + 1) ≡ k - i - 1
+      then = omega arith
+
+      joins : more_path ++ way (k - (i + 1)) w more ≡ whole
+      joins =
+          ap (λ x. x ++ way (k - (i + 1)) w more) one_more
+          ∙ append_assoc path (n ∷ []) (way (k - (i + 1)) w more)
+          ∙ ap (λ x. path ++ (n ∷ way x w more)) then
+          ∙ ap (λ x. path ++ (n ∷ way (k - i - 1) w x)) p
+          ∙ ap (λ x. path ++ (n ∷ way (k - i - 1) x (g.kind.joined paid (g.price n)))) q
+          ∙ ap (λ o. path ++ when_there o [] (λ n. n ∷ way (k - i - 1) (when_there (g.hop v n) v (λ w. w)) (g.kind.joined paid (g.price n)))) f
+          ∙ sym (ap (λ x. path ++ way x v paid) left)
+          ∙ inv.joins
+
+  pub walk_stops : (path : List ℕ) (i v : ℕ) (paid : C) → i < k → Walked path i v paid → None ≡ first_below (fit g bound (rows (k - i - 1)) v paid) g.numbers → path ≡ whole
+  walk_stops path i v paid h inv f =
       let left : k - i ≡ suc (k - i - 1) = omega arith in
-      sym (append-nil (take i links))
-      ∙ ap (λ o. take i links ++ when_there o [] (λ n. n ∷ way (k - i - 1) (when_there (g.hop v n) v (λ w. w)) (g.kind.joined paid (g.price n)))) f
-      ∙ sym (ap (λ x. take i links ++ way x v paid) left)
-      ∙ inv.1
+      sym (append-nil path)
+      ∙ ap (λ o. path ++ when_there o [] (λ n. n ∷ way (k - i - 1) (when_there (g.hop v n) v (λ w. w)) (g.kind.joined paid (g.price n)))) f
+      ∙ sym (ap (λ x. path ++ way x v paid) left)
+      ∙ inv.joins
 
-  pub walk_all : (links : List ℕ) (i v : ℕ) (paid : C) → i ≡ k → Walked links i v paid → take k links ≡ whole
-  walk_all links i v paid e inv =
+  pub walk_all : (path : List ℕ) (i v : ℕ) (paid : C) → i ≡ k → Walked path i v paid → path ≡ whole
+  walk_all path i v paid e inv =
       let none_left : k - i ≡ 0 = omega arith in
-      ap (λ x. take x links) (sym e)
-      ∙ sym (append-nil (take i links))
-      ∙ sym (ap (λ x. take i links ++ way x v paid) none_left)
-      ∙ inv.1
+      sym (append-nil path) ∙ sym (ap (λ x. path ++ way x v paid) none_left) ∙ inv.joins
 
 -- ---- rows that agree
 

@@ -9,7 +9,7 @@
 --   Dict, Before           dictionary order and the order of choice, in plain words
 --   Chosen g m s t p       p is a path, and comes before every other path
 --   Rightly g m s t o      o is the one chosen path, or nothing where there is no path
-use Rattle.std.specs.Prelude.{◌≡◌, ℕ, zero, suc, ◌≤◌, Bool, true, false, cond, List, [], ◌∷◌, ◌++◌, map, length, Some, None, filter, Option, MatchOption, ◌==◌, nat_lt}
+use Rattle.std.specs.Prelude.{◌≡◌, ℕ, zero, suc, ◌≤◌, Bool, true, false, if◌then◌else◌, List, [], ◌∷◌, ◌++◌, map, length, Some, None, filter, Option, MatchOption, ◌==◌, nat_lt}
 use Rattle.network.specs.Costs.{Kind}
 use Rattle.network.specs.Paths.{when_there, Ground, ground, total, Allowed, is_path}
 use Rattle.network.specs.declared.network.Network.{Network}
@@ -17,17 +17,17 @@ use Rattle.network.specs.declared.network.Network.{Network}
 abbrev pub dict : List ℕ → List ℕ → Bool
 dict [] q = true
 dict (x ∷ p) [] = false
-dict (x ∷ p) (y ∷ q) = cond (x == y) (dict p q) (nat_lt x y)
+dict (x ∷ p) (y ∷ q) = if x == y then dict p q else nat_lt x y
 
 abbrev pub before : {C : Type 0} → Ground C → List ℕ → List ℕ → Bool
 before g p q =
-    cond (g.kind.at_most (total g p) (total g q))
-    (cond (g.kind.at_most (total g q) (total g p)) (cond (length p == length q) (dict p q) (nat_lt (length p) (length q))) true)
-    false
+    if g.kind.at_most (total g p) (total g q)
+    then (if g.kind.at_most (total g q) (total g p) then (if length p == length q then dict p q else nat_lt (length p) (length q)) else true)
+    else false
 
 abbrev pub least_of : {X : Type 0} → (X → X → Bool) → List X → Option X
 least_of b [] = None
-least_of b (x ∷ xs) = when_there (least_of b xs) (Some x) (λ y. cond (b x y) (Some x) (Some y))
+least_of b (x ∷ xs) = when_there (least_of b xs) (Some x) (λ y. if b x y then Some x else Some y)
 
 -- f 0 and so on up to f (n - 1), one after the other
 abbrev pub each_below : {X : Type 0} → (ℕ → List X) → ℕ → List X

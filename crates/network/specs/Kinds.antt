@@ -11,9 +11,12 @@ use Rattle.network.specs.Costs.{Kind, Laws}
 use Rattle.network.specs.declared.loss.Loss.{Loss}
 use Rattle.network.specs.declared.metres.Metres.{Metres}
 
+pub top_fits : (n : ℕ) → min n 4294967295 ≤ 4294967295
+top_fits n = omega arith
+
 -- n metres, or the top where n is above it
 abbrev pub stopped : ℕ → Metres
-stopped n = record { value = min n 4294967295; fits = omega arith }
+stopped n = record { value = min n 4294967295; fits = top_fits n }
 
 abbrev pub by_length : Kind Metres
 by_length = record {

@@ -2,10 +2,12 @@ pub mod Choice
 pub mod Costs
 pub mod Ends
 pub mod Flags
+pub mod Grounds
 pub mod Kinds
 pub mod Limits
 pub mod Making
 pub mod Method
 pub mod Numbers
+pub mod Padded
 pub mod Paths
 pub mod Places

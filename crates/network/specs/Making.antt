@@ -4,7 +4,7 @@
 --   takes net l             the network takes one more link l: its ends are places, and there are fewer than 40 links
 --   add_answer net l        what adding l answers
 --   links_after net l       the links then
-use Rattle.std.specs.Prelude.{◌≡◌, Bool, true, false, cond, ◌&&◌, List, [], ◌∷◌, ◌++◌, Ok, Err, vec_items, vec_len, Result, nat_le, nat_lt}
+use Rattle.std.specs.Prelude.{◌≡◌, Bool, true, false, if◌then◌else◌, ◌&&◌, List, [], ◌∷◌, ◌++◌, Ok, Err, vec_items, vec_len, Result, nat_le, nat_lt}
 use Rattle.network.specs.declared.link.Link.{Link}
 use Rattle.network.specs.declared.network.Network.{Network}
 use Rattle.network.specs.declared.refusal.NetworkRefusal.{NetworkRefusal}
@@ -20,7 +20,7 @@ abbrev pub takes : Network → Link → Bool
 takes net l = (nat_le l.one net.places && nat_le l.two net.places) && nat_lt (vec_len net.links) 40
 
 abbrev pub add_answer : Network → Link → Result Unit NetworkRefusal
-add_answer net l = cond (takes net l) (Ok tt) (Err BadLink)
+add_answer net l = if takes net l then Ok tt else Err BadLink
 
 abbrev pub links_after : Network → Link → List Link
-links_after net l = cond (takes net l) (vec_items net.links ++ l ∷ []) (vec_items net.links)
+links_after net l = if takes net l then vec_items net.links ++ l ∷ [] else vec_items net.links

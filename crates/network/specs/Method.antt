@@ -13,13 +13,13 @@
 --   Relaxed g old new j i   row j + 1 is offered link i, with row j ahead; rows up to j are as they were
 --   NextRow g old new j     row j + 1 has the least of what all links offer, with row j ahead; rows up to j are as they were
 --   Tabled g t cells m      the cells of the rows up to m are those of the table
-use Rattle.std.specs.Prelude.{◌≡◌, ℕ, zero, suc, ◌+◌, ◌*◌, ◌<◌, ◌≤◌, Bool, false, cond, List, [], ◌∷◌, Some, None, Option, ◌==◌, slice_index_or}
+use Rattle.std.specs.Prelude.{◌≡◌, ℕ, zero, suc, ◌+◌, ◌*◌, ◌<◌, ◌≤◌, Bool, false, if◌then◌else◌, List, [], ◌∷◌, Some, None, Option, ◌==◌, slice_index_or}
 use Rattle.network.specs.Paths.{when_there, Ground}
 
 abbrev pub better : {C : Type 0} → (C → C → Bool) → Option C → Option C → Option C
 better at_most None y = y
 better at_most (Some x) None = Some x
-better at_most (Some x) (Some y) = cond (at_most x y) (Some x) (Some y)
+better at_most (Some x) (Some y) = if at_most x y then Some x else Some y
 
 abbrev pub least_below : {C : Type 0} → (C → C → Bool) → (ℕ → Option C) → ℕ → Option C
 least_below at_most f zero = None
@@ -33,13 +33,13 @@ abbrev pub offer : {C : Type 0} → Ground C → (ℕ → Option C) → ℕ → 
 offer g ahead v i = when_there (g.hop v i) None (λ w. extended g.kind.joined (g.price i) (ahead w))
 
 abbrev pub table : {C : Type 0} → Ground C → ℕ → ℕ → ℕ → Option C
-table g t zero v = cond (v == t) (Some g.kind.none) None
+table g t zero v = if v == t then Some g.kind.none else None
 table g t (suc j) v = least_below g.kind.at_most (offer g (table g t j) v) g.numbers
 
 abbrev pub pick_more : {C : Type 0} → (C → C → Bool) → Option (ℕ × C) → ℕ → Option C → Option (ℕ × C)
 pick_more at_most b j None = b
 pick_more at_most None j (Some c) = Some (j, c)
-pick_more at_most (Some b) j (Some c) = cond (at_most b.1 c) (Some b) (Some (j, c))
+pick_more at_most (Some b) j (Some c) = if at_most b.1 c then Some b else Some (j, c)
 
 abbrev pub picks : {C : Type 0} → (C → C → Bool) → (ℕ → ℕ → Option C) → ℕ → ℕ → Option (ℕ × C)
 picks at_most rows s zero = None
@@ -47,7 +47,7 @@ picks at_most rows s (suc m) = pick_more at_most (picks at_most rows s m) (m + 1
 
 abbrev pub first_below : (ℕ → Bool) → ℕ → Option ℕ
 first_below p zero = None
-first_below p (suc n) = when_there (first_below p n) (cond (p n) (Some n) None) (λ k. Some k)
+first_below p (suc n) = when_there (first_below p n) (if p n then Some n else None) (λ k. Some k)
 
 abbrev pub fit : {C : Type 0} → Ground C → C → (ℕ → Option C) → ℕ → C → ℕ → Bool
 fit g bound ahead v paid i =

@@ -12,24 +12,21 @@
 --   total g p              the cost of p: the costs of its links joined
 --   Allowed hop m s t p    p is a path from s to t: 1 to m links that lead from s to t and touch no place twice
 --   is_path hop m s t p    the same, as a test
---   path_numbers p         the link numbers of a path that a search gave
---   Formed p               it is a list of eight of which at most eight are in use, with zeros after the last
-use Rattle.std.specs.Prelude.{◌≡◌, ℕ, suc, ◌≤◌, Bool, true, false, cond, ◌&&◌, List, [], ◌∷◌, length, take, Some, None, vec_items, vec_len, Option, ◌==◌, nat_eq, nat_le, nat_lt, slice_index}
+use Rattle.std.specs.Prelude.{◌≡◌, ℕ, suc, ◌≤◌, Bool, true, false, if◌then◌else◌, ◌&&◌, List, [], ◌∷◌, length, Some, None, vec_items, vec_len, Option, ◌==◌, nat_eq, nat_le, nat_lt}
 use Rattle.network.specs.Costs.{Kind}
 use Rattle.network.specs.Places.{link_at}
 use Rattle.network.specs.declared.link.Link.{Link}
 use Rattle.network.specs.declared.network.Network.{Network}
-use Rattle.network.specs.declared.path.Path.{Path}
 
 abbrev pub when_there : {X Y : Type 0} → Option X → Y → (X → Y) → Y
 when_there None d f = d
 when_there (Some x) d f = f x
 
 abbrev pub far_end : Link → ℕ → Option ℕ
-far_end l v = cond (l.one == v) (Some l.two) (cond (l.two == v) (Some l.one) None)
+far_end l v = if l.one == v then Some l.two else (if l.two == v then Some l.one else None)
 
 unfoldable pub crossing : Network → (ℕ → Bool) → ℕ → ℕ → Option ℕ
-crossing net free v i = when_there (link_at (vec_items net.links) i) None (λ l. cond (free i) (far_end l v) None)
+crossing net free v i = when_there (link_at (vec_items net.links) i) None (λ l. if free i then far_end l v else None)
 
 unfoldable pub price_of : {C : Type 0} → Kind C → Network → ℕ → C
 price_of k net i = when_there (link_at (vec_items net.links) i) k.none k.price
@@ -54,11 +51,11 @@ touched hop v (i ∷ p) = v ∷ when_there (hop v i) [] (λ w. touched hop w p)
 
 abbrev pub has : ℕ → List ℕ → Bool
 has v [] = false
-has v (w ∷ ws) = cond (v == w) true (has v ws)
+has v (w ∷ ws) = if v == w then true else has v ws
 
 abbrev pub no_twice : List ℕ → Bool
 no_twice [] = true
-no_twice (v ∷ vs) = cond (has v vs) false (no_twice vs)
+no_twice (v ∷ vs) = if has v vs then false else no_twice vs
 
 abbrev pub total : {C : Type 0} → Ground C → List ℕ → C
 total g [] = g.kind.none
@@ -73,11 +70,3 @@ pub record Allowed (hop : ℕ → ℕ → Option ℕ) (limit s t : ℕ) (p : Lis
 abbrev pub is_path : (ℕ → ℕ → Option ℕ) → ℕ → ℕ → ℕ → List ℕ → Bool
 is_path hop limit s t p =
     (nat_lt 0 (length p) && nat_le (length p) limit) && (when_there (leads hop s p) false (λ v. nat_eq v t) && no_twice (touched hop s p))
-
-abbrev pub path_numbers : Path → List ℕ
-path_numbers p = take p.count p.links
-
-pub record Formed (p : Path) : Type 0 where
-  pub few : p.count ≤ 8
-  pub eight : length p.links ≡ 8
-  pub zeros : (i : ℕ) → p.count ≤ i → slice_index p.links i ≡ 0

@@ -9,12 +9,9 @@ use crate::metres::Metres;
 fn metres(n: u64) -> Metres
     ensures { result ≡ stopped n }
 {
-    if n > 4_294_967_295 {
-        return Metres {
-            value: 4_294_967_295,
-        };
+    Metres {
+        value: n.min(4_294_967_295) as u32,
     }
-    Metres { value: n as u32 }
 }
 
 // Adds metres and stops at the top.
@@ -36,6 +33,6 @@ impl Cost for Metres {
     }
 
     fn at_most(self, other: Metres) -> bool {
-        self.value <= other.value
+        self <= other
     }
 }

@@ -4,8 +4,10 @@ ghost use Rattle.network.specs.declared.refusal.NetworkRefusal.TheVariants.{BadL
 
 use crate::refusal::NetworkRefusal;
 
+mod ends;
+
 // A link joins two different places. Its loss is in hundredths of a decibel.
-#[derive(Clone, Copy)]
+#[derive(Clone, Copy, Debug, PartialEq, Eq)]
 pub struct Link {
     pub one: u8,
     pub two: u8,
@@ -23,10 +25,10 @@ impl Link {
             (λ l. (link_fits one two metres loss ≡ true) × (l.one ≡ one) × (l.two ≡ two) × (l.metres ≡ metres) × (l.loss ≡ loss))
             (λ why. (link_fits one two metres loss ≡ false) × (why ≡ BadLink)) }
     {
-        if one < 1 || one > 32 || two < 1 || two > 32 || one == two {
+        if !(1..=32).contains(&one) || !(1..=32).contains(&two) || one == two {
             return Err(NetworkRefusal::BadLink);
         }
-        if metres < 1 || metres > 999_999 || loss > 9_999 {
+        if !(1..=999_999).contains(&metres) || loss > 9_999 {
             return Err(NetworkRefusal::BadLink);
         }
         Ok(Link {

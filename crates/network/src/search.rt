@@ -1,12 +1,9 @@
-ghost use Rattle.std.specs.Prelude.{◌≡◌, IfSome, vec_len};
-ghost use Rattle.std.specs.Option.{option_map};
+ghost use Rattle.std.specs.Prelude.{◌≡◌, vec_len};
 ghost use Rattle.network.specs.Choice.{chosen_path, Rightly, ChosenIsLeast};
 ghost use Rattle.network.specs.Flags.{may_use};
-ghost use Rattle.network.specs.Paths.{ground, path_numbers, Formed};
+ghost use Rattle.network.specs.Paths.{ground};
 
-use self::aim::aim;
-use self::table::fill_table;
-use self::walk::walk_out;
+use self::ground::Ground;
 use crate::cost::Cost;
 use crate::network::Network;
 use crate::path::Path;
@@ -14,10 +11,11 @@ use crate::usable::Usable;
 use std::alloc::{AllocError, Global};
 
 mod aim;
+pub mod ground;
 mod table;
 mod walk;
 
-pub use self::walk::price;
+pub use self::ground::price;
 
 // Memory for the rows of one search: 9 rows, for 0 to 8 links, of 33 cells, for places 0 to 32.
 // What it holds before a search does not matter.
@@ -29,11 +27,9 @@ pub struct Scratch<C> {
 
 impl<C: Copy> Scratch<C> {
     pub fn new(heap: Global) -> Result<Scratch<C>, AllocError> {
-        let mut cells = Vec::with_capacity(heap, 297)?;
-        for i in 0..297usize {
-            cells.push_reserved(None);
-        }
-        Ok(Scratch { cells })
+        Ok(Scratch {
+            cells: vec![in heap; None; 297]?,
+        })
     }
 }
 
@@ -50,18 +46,16 @@ pub fn chosen_path<C: Cost>(
     from: u8,
     to: u8,
 ) -> Option<Path>
-    ensures numbers { option_map path_numbers result ≡ chosen_path C.kind net.now (may_use usable.now) from to }
-    ensures formed { IfSome result Formed }
-    ensures least { Rightly (ground C.kind net.now (may_use usable.now)) net.now.hops from to (option_map path_numbers result) }
+    ensures value { result ≡ chosen_path C.kind net.now (may_use usable.now) from to }
+    ensures least { Rightly (ground C.kind net.now (may_use usable.now)) net.now.hops from to result }
 {
     if !net.two_places(from, to) {
         return None;
     }
-    fill_table(net, usable, scratch, to);
-    let Some(best) = aim(net, scratch, from) else {
-        return None;
-    };
-    Some(walk_out(net, usable, scratch, from, best.0, best.1))
+    let over = Ground { net, usable };
+    scratch.fill(over, to);
+    let best = scratch.aim(net, from)?;
+    Some(scratch.walk_out(over, from, best.0, best.1))
 }
 
 // On every network, for every cost kind: what the definition names is a path, no path comes before it, and there is only

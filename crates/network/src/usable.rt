@@ -30,18 +30,14 @@ impl Usable {
     pub fn is_usable(&self, number: u8) -> bool
         ensures { result ≡ may_use self.now number }
     {
-        if number < 1 || number > 40 {
-            return false;
-        }
-        self.open[number as usize]
+        (1..=40).contains(&number) && self.open[number as usize]
     }
 
     pub fn set(&mut self, number: u8, usable: bool)
         ensures { (i : ℕ) → may_use self.new i ≡ (if is_number number && i == number then usable else may_use self.old i) }
     {
-        if number < 1 || number > 40 {
-            return;
+        if (1..=40).contains(&number) {
+            self.open[number as usize] = usable;
         }
-        self.open[number as usize] = usable;
     }
 }

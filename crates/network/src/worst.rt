@@ -25,6 +25,6 @@ impl Cost for Loss {
     }
 
     fn at_most(self, other: Loss) -> bool {
-        self.value <= other.value
+        self <= other
     }
 }

@@ -1,24 +1,13 @@
 ghost use Rattle.std.specs.Prelude.{◌≡◌, true, [], vec_len, MatchResult};
 ghost use Rattle.network.specs.Limits.{is_place, two_places, network_fits};
 ghost use Rattle.network.specs.Making.{WhyNotMade, add_answer, links_after};
+ghost use Rattle.network.specs.Paths.{crossing};
 ghost use Rattle.network.specs.Places.{link_at};
 
 use super::Network;
 use crate::link::Link;
 use crate::refusal::{NetworkRefusal, NotMade};
 use std::alloc::Global;
-
-// The link of that number in the list.
-fn numbered(links: &Vec<Link>, number: u8) -> Option<Link>
-    ensures { result ≡ link_at links.now.items number }
-{
-    let i = number as usize;
-    let count = links.len();
-    if i < 1 || count < i {
-        return None;
-    }
-    Some(links[i - 1])
-}
 
 impl Network {
     // A network with no links yet, with memory for all that it may get.
@@ -27,17 +16,14 @@ impl Network {
             (λ n. (network_fits places hops ≡ true) × (n.places ≡ places) × (n.hops ≡ hops) × (n.links.items ≡ []))
             (WhyNotMade (network_fits places hops)) }
     {
-        if places < 2 || places > 32 || hops < 1 || hops > 8 {
+        if !(2..=32).contains(&places) || !(1..=8).contains(&hops) {
             return Err(NotMade::Refused(NetworkRefusal::BadNetwork));
         }
-        match Vec::with_capacity(heap, 40) {
-            Ok(links) => Ok(Network {
-                places: places as u8,
-                hops: hops as u8,
-                links,
-            }),
-            Err(_) => Err(NotMade::NoMemory),
-        }
+        Ok(Network {
+            places: places as u8,
+            hops: hops as u8,
+            links: Vec::with_capacity(heap, 40)?,
+        })
     }
 
     pub fn places(&self) -> u8
@@ -62,21 +48,28 @@ impl Network {
     pub fn has_place(&self, v: u8) -> bool
         ensures { result ≡ is_place self.now.places v }
     {
-        (1 <= v) & (v <= self.places)
+        (1..=self.places).contains(&v)
     }
 
     // Whether v and w are two different places of the network.
     pub fn two_places(&self, v: u8, w: u8) -> bool
         ensures { result ≡ two_places self.now.places v w }
     {
-        (self.has_place(v) & self.has_place(w)) & !(v == w)
+        self.has_place(v) && self.has_place(w) && v != w
     }
 
     // The link of that number, if there is one.
     pub fn link(&self, number: u8) -> Option<Link>
         ensures { result ≡ link_at self.now.links.items number }
     {
-        numbered(&self.links, number)
+        self.links.get((number as usize).checked_sub(1)?).copied()
+    }
+
+    // Where the link of that number leads from v, if v is an end of it.
+    pub fn leads(&self, v: u8, number: u8) -> Option<u8>
+        ensures { result ≡ crossing self.now (λ _. true) v number }
+    {
+        self.link(number)?.far_end(v)
     }
 
     // One link more, by value, with the next number.

@@ -1,6 +1,0 @@
-use Rattle.std.proofs.Common.{◌≡◌}
-use Rattle.network.specs.Method.{cell_at, picks}
-use Rattle.network.proofs.search.aim.aim.Given as goal
-
-abbrev pub invariant-loop-j : goal.invariant-loop-j
-invariant-loop-j g l = l.best ≡ picks g.C.Cost.kind.at_most (cell_at l.scratch.cells.items) l.from l.j
