@@ -1,6 +1,7 @@
 -- What the checks of a call come to.
 --
---   Takes s c e      the call is accepted in state s: the order e is put into the plant and at the end of the book
+--   joined s e       the state s once the order e is put into the plant and at the end of the book
+--   Takes s c e      the call is accepted in state s, and the order e joins it
 --   Refuses s c why  the call is refused, and leaves the state as it is
 use Rattle.std.specs.Prelude.{◌≡◌}
 use Rattle.orders.specs.Book.{pushed}
@@ -10,12 +11,13 @@ use Rattle.orders.specs.Standing.{Standing}
 use Rattle.orders.specs.declared.call.Call.{Call}
 use Rattle.orders.specs.declared.refusal.Refusal.{Refusal}
 
+abbrev pub joined : {C : Type 0} → State C → Standing → State C
+joined s e = record { rules = s.rules; plant = hold_all s.plant e; standing = pushed s.standing e }
+
 pub record Takes {C : Type 0} (s : State C) (c : Call) (e : Standing) : Type 0 where
   pub answer : stands_so e ≡ answers_in s c
-  pub plant : hold_all s.plant e ≡ (after s c).plant
-  pub standing : pushed s.standing e ≡ (after s c).standing
+  pub state : joined s e ≡ after s c
 
 pub record Refuses {C : Type 0} (s : State C) (c : Call) (why : Refusal) : Type 0 where
   pub answer : refused why ≡ answers_in s c
-  pub plant : s.plant ≡ (after s c).plant
-  pub standing : s.standing ≡ (after s c).standing
+  pub state : s ≡ after s c

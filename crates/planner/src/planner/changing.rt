@@ -13,10 +13,8 @@ use plant::Plant;
 impl<P: Plant, C: Cost> Planner<P, C> {
     // Gives back every run of the order of this number, and closes up the book.
     pub fn cancel(&mut self, number: u32) -> Answer
-        ensures answer { said result ≡ answers_in (seen P.Plant.meaning C.Cost.kind self.old) (CancelOf number) }
-        ensures rules { (seen P.Plant.meaning C.Cost.kind self.new).rules ≡ (seen P.Plant.meaning C.Cost.kind self.old).rules }
-        ensures plant { P.Plant.meaning self.new.plant ≡ (after (seen P.Plant.meaning C.Cost.kind self.old) (CancelOf number)).plant }
-        ensures standing { (seen P.Plant.meaning C.Cost.kind self.new).standing ≡ (after (seen P.Plant.meaning C.Cost.kind self.old) (CancelOf number)).standing }
+        ensures answer { said result ≡ answers_in (seen P.meaning C.kind self.old) (CancelOf number) }
+        ensures state { seen P.meaning C.kind self.new ≡ after (seen P.meaning C.kind self.old) (CancelOf number) }
     {
         let Some(i) = self.book.find(number) else {
             return Err(Refusal::NotStanding);
@@ -29,10 +27,8 @@ impl<P: Plant, C: Cost> Planner<P, C> {
 
     // Gives the order of this number a new first hour with the same way. Its own old cells count as free.
     pub fn shift(&mut self, number: u32, hour: u32) -> Answer
-        ensures answer { said result ≡ answers_in (seen P.Plant.meaning C.Cost.kind self.old) (ShiftOf number hour) }
-        ensures rules { (seen P.Plant.meaning C.Cost.kind self.new).rules ≡ (seen P.Plant.meaning C.Cost.kind self.old).rules }
-        ensures plant { P.Plant.meaning self.new.plant ≡ (after (seen P.Plant.meaning C.Cost.kind self.old) (ShiftOf number hour)).plant }
-        ensures standing { (seen P.Plant.meaning C.Cost.kind self.new).standing ≡ (after (seen P.Plant.meaning C.Cost.kind self.old) (ShiftOf number hour)).standing }
+        ensures answer { said result ≡ answers_in (seen P.meaning C.kind self.old) (ShiftOf number hour) }
+        ensures state { seen P.meaning C.kind self.new ≡ after (seen P.meaning C.kind self.old) (ShiftOf number hour) }
     {
         let Some(i) = self.book.find(number) else {
             return Err(Refusal::NotStanding);

@@ -43,7 +43,7 @@ fn two_places(places: u8, v: u32, w: u32) -> bool
 impl<P: Plant, C: Cost> Planner<P, C> {
     // The first check of an order that fails, of those that book and place share.
     pub(super) fn order_fault(&self, request: Request) -> Option<Refusal>
-        ensures { result ≡ order_fault (seen P.Plant.meaning C.Cost.kind self.now).rules (P.Plant.meaning self.now.plant) (seen P.Plant.meaning C.Cost.kind self.now).standing request }
+        ensures { result ≡ order_fault (seen P.meaning C.kind self.now).rules (P.meaning self.now.plant) (seen P.meaning C.kind self.now).standing request }
     {
         if self.plant.size().links < self.net.link_count() {
             return Some(Refusal::FewerLinks);
@@ -72,8 +72,8 @@ impl<P: Plant, C: Cost> Planner<P, C> {
     // The order that is asked for, if no check fails that book and place share.
     pub(super) fn checked_order(&self, request: Request) -> Result<Order, Refusal>
         ensures { MatchResult result
-            (λ o. (None ≡ order_fault (seen P.Plant.meaning C.Cost.kind self.now).rules (P.Plant.meaning self.now.plant) (seen P.Plant.meaning C.Cost.kind self.now).standing request) × (o ≡ order_of request))
-            (λ why. Some why ≡ order_fault (seen P.Plant.meaning C.Cost.kind self.now).rules (P.Plant.meaning self.now.plant) (seen P.Plant.meaning C.Cost.kind self.now).standing request) }
+            (λ o. (None ≡ order_fault (seen P.meaning C.kind self.now).rules (P.meaning self.now.plant) (seen P.meaning C.kind self.now).standing request) × (o ≡ order_of request))
+            (λ why. Some why ≡ order_fault (seen P.meaning C.kind self.now).rules (P.meaning self.now.plant) (seen P.meaning C.kind self.now).standing request) }
     {
         if let Some(why) = self.order_fault(request) {
             return Err(why);
@@ -90,7 +90,7 @@ impl<P: Plant, C: Cost> Planner<P, C> {
 
     // The first channel, if the block from it up lies within the plant's channels.
     pub(super) fn checked_block(&self, channel: u32, width: u8) -> Option<u8>
-        ensures { result ≡ (if block_fits (P.Plant.meaning self.now.plant).channels channel width then Some channel else None) }
+        ensures { result ≡ (if block_fits (P.meaning self.now.plant).channels channel width then Some channel else None) }
     {
         let channels = self.plant.size().channels as u32;
         if channel < 1 || channels + 1 < width as u32 || channels + 1 - (width as u32) < channel {

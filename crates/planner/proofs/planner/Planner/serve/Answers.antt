@@ -1,6 +1,6 @@
 use Rattle.std.proofs.Common.{◌≡◌, ◌<◌, ◌≤◌, length, get_or, set, Some, vec_items, sym, refl, ap, ◌∙◌, subst, arith}
 use Rattle.std.proofs.lemmas.List.{get_or_default}
-use Rattle.orders.specs.Calls.{Rules, answer, plant_after, orders_after}
+use Rattle.orders.specs.Calls.{Rules, State, answer, plant_after, orders_after}
 use Rattle.orders.specs.declared.call.Slot.{Slot}
 use Rattle.orders.proofs.Numbers.{stood_apart}
 use Rattle.floor.specs.Plans.{reported}
@@ -26,14 +26,15 @@ loop-i-preserved g c =
     let is : old ≡ get_or ss i old = get_or_default ss i c.index-slots-i.result old there in
     let rules = c.loop-i.invariant.0 in
     let made = c.call-answer.ensures in
+    let kept = ap (λ (x : State _). x.rules) made.state in
     let new : Slot = record { call = (get_or ss i c.index-slots-i-in-loop-i.result).call; answer = Some c.call-answer.result } in (
-      made.rules ∙ rules,
+      kept ∙ rules,
       going_more start.rules g.C.Cost.laws start.plant start.standing c.args.slots.now i ss (set ss i new) old new now.plant then.plant now.standing then.standing
           (g.P.Plant.sound c.loop-i.self.plant) there c.loop-i.invariant.1 is
           (ap (λ (s : Slot). s.call) (get_or_default ss i c.index-slots-i-in-loop-i.result old there ∙ sym is))
           (ap Some (made.answer ∙ ap (λ x. answer x now.plant now.standing old.call) rules)) refl
-          (made.plant ∙ ap (λ x. plant_after x now.plant now.standing old.call) rules)
-          (made.standing ∙ ap (λ x. orders_after x now.plant now.standing old.call) rules),
+          (ap (λ (x : State _). x.plant) made.state ∙ ap (λ x. plant_after x now.plant now.standing old.call) rules)
+          (ap (λ (x : State _). x.standing) made.state ∙ ap (λ x. orders_after x now.plant now.standing old.call) rules),
     )
 
 pub returns : goal.returns

@@ -1,6 +1,7 @@
 use Rattle.std.proofs.Common.{◌<◌, vec_items, refl, arith}
 use Rattle.planner.specs.Seen.{seen}
 use Rattle.planner.proofs.Shifted.{shift_says, shift_plant, shift_standing}
+use Rattle.planner.proofs.Taking.{same_state}
 use Rattle.planner.proofs.planner.Planner.shift.Goals as goal
 
 pub returns : goal.returns
@@ -14,7 +15,7 @@ returns g c =
     let free = c.in_default-first_fault.ensures in
     record {
       answer = shift_says s.rules s.plant rows c.args.number c.args.hour c.in-Some.i found old is week free;
-      rules = refl;
-      plant = shift_plant s.rules s.plant rows c.args.number c.args.hour c.in-Some.i found old is week free (g.P.Plant.meaning c.do_runs.new.plant) (g.P.Plant.meaning c.do_runs-2.new.plant) c.do_runs.ensures c.do_runs-2.ensures;
-      standing = shift_standing s.rules s.plant rows c.args.number c.args.hour c.in-Some.i found old is week free _ found.there c.set_hour.ensures;
+      state = same_state s.rules _ _ _ _
+        (shift_plant s.rules s.plant rows c.args.number c.args.hour c.in-Some.i found old is week free (g.P.Plant.meaning c.do_runs.new.plant) (g.P.Plant.meaning c.do_runs-2.new.plant) c.do_runs.ensures c.do_runs-2.ensures)
+        (shift_standing s.rules s.plant rows c.args.number c.args.hour c.in-Some.i found old is week free _ found.there c.set_hour.ensures);
     }
