@@ -60,12 +60,6 @@ module _ {C : Type 0} (g : Rules C) (m : Meaning) (es : List Standing) where
   crowded e room = cond-true (ltb (room_of m) (runs_needed e)) (refused NoRoom) (stands_so e) (lt-ltb (room_of m) (runs_needed e) room)
 
   module _ (r : Request) where
-    faulty : (x : Said) (why : Refusal) → Some why ≡ order_fault g m es r → unless (order_fault g m es r) x ≡ refused why
-    faulty x why f = ap (λ o. unless o x) (sym f)
-
-    pub book_faulty : (why : Refusal) → Some why ≡ order_fault g m es r → Refuses (record { rules = g; plant = m; standing = es }) (Book r) why
-    book_faulty why f = refuses (Book r) why (faulty _ why f)
-
     module _ (fine : None ≡ order_fault g m es r) where
       searched : (o : Option Named) → o ≡ way_for g (taken m) m.channels (order_of r) → book_answer g m es r ≡ when_there o (refused NoWay) (λ w. if_room m (along (order_of r) w))
       searched o f = ap (λ x. unless x (when_there (way_for g (taken m) m.channels (order_of r)) (refused NoWay) (λ w. if_room m (along (order_of r) w)))) (sym fine) ∙ ap (λ x. when_there x (refused NoWay) (λ w. if_room m (along (order_of r) w))) (sym f)
@@ -85,12 +79,9 @@ module _ {C : Type 0} (g : Rules C) (m : Meaning) (es : List Standing) where
             record {
               answer = sym a;
               state = same_state g _ _ _ _
-                (sym (cond-true (was_accepted (book_answer g m es r)) (effect g m es (Book r)) m ok ∙ ap (λ o. when_there o m (λ v. hold_all m (along (order_of r) v))) (sym found)))
-                (pushes r w (checked g m es r (sym fine)) ∙ sym (ap (fed g (taken m) m.channels es (Book r)) ok ∙ ap (λ o. when_there o es (λ v. es ++ (along (order_of r) v ∷ []))) (sym found)));
+                  (sym (cond-true (was_accepted (book_answer g m es r)) (effect g m es (Book r)) m ok ∙ ap (λ o. when_there o m (λ v. hold_all m (along (order_of r) v))) (sym found)))
+                  (pushes r w (checked g m es r (sym fine)) ∙ sym (ap (fed g (taken m) m.channels es (Book r)) ok ∙ ap (λ o. when_there o es (λ v. es ++ (along (order_of r) v ∷ []))) (sym found)));
             }
-
-    pub place_faulty : (a : ℕ) (p : Route) (why : Refusal) → Some why ≡ order_fault g m es r → Refuses (record { rules = g; plant = m; standing = es }) (Place r a p) why
-    place_faulty a p why f = refuses (Place r a p) why (faulty _ why f)
 
     module _ (fine : None ≡ order_fault g m es r) (a : ℕ) (p : Route) where
       shared : (x : Said) → place_answer g m es r a p ≡ unless (order_fault g m es r) x → place_answer g m es r a p ≡ x
@@ -128,5 +119,5 @@ module _ {C : Type 0} (g : Rules C) (m : Meaning) (es : List Standing) where
                 record {
                   answer = sym a';
                   state = same_state g _ _ _ _ (sym (cond-true (was_accepted (place_answer g m es r a p)) (effect g m es (Place r a p)) m ok))
-                    (pushes r (given a p) (checked g m es r (sym fine)) ∙ sym (ap (fed g (taken m) m.channels es (Place r a p)) ok));
+                      (pushes r (given a p) (checked g m es r (sym fine)) ∙ sym (ap (fed g (taken m) m.channels es (Place r a p)) ok));
                 }

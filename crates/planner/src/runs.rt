@@ -14,10 +14,7 @@ use plant::Plant;
 fn is_own(own: Option<Row>, cell: Cell) -> bool
     ensures { result ≡ own_cells (option_map stood own) cell.link cell.channel cell.hour }
 {
-    match own {
-        Some(row) => row.is_in(cell.link, cell.channel, cell.hour),
-        None => false,
-    }
+    own.is_some_and(|row| row.is_in(cell.link, cell.channel, cell.hour))
 }
 
 // Why the cell is not free: it is closed, or held and not by the order itself.
@@ -27,7 +24,7 @@ fn cell_fault<P: Plant>(plant: &P, own: Option<Row>, cell: Cell) -> Option<Refus
     if plant.closed(cell.link, cell.channel, cell.hour) {
         return Some(Refusal::CellClosed(cell));
     }
-    if plant.held(cell.link, cell.channel, cell.hour) & !is_own(own, cell) {
+    if plant.held(cell.link, cell.channel, cell.hour) && !is_own(own, cell) {
         return Some(Refusal::CellHeld(cell));
     }
     None

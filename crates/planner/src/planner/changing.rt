@@ -16,9 +16,7 @@ impl<P: Plant, C: Cost> Planner<P, C> {
         ensures answer { said result ≡ answers_in (seen P.meaning C.kind self.old) (CancelOf number) }
         ensures state { seen P.meaning C.kind self.new ≡ after (seen P.meaning C.kind self.old) (CancelOf number) }
     {
-        let Some(i) = self.book.find(number) else {
-            return Err(Refusal::NotStanding);
-        };
+        let i = self.book.find(number).ok_or(Refusal::NotStanding)?;
         let row = self.book.rows[i];
         do_runs(&mut self.plant, Deed::Release, row);
         self.book.remove(i);
@@ -30,9 +28,7 @@ impl<P: Plant, C: Cost> Planner<P, C> {
         ensures answer { said result ≡ answers_in (seen P.meaning C.kind self.old) (ShiftOf number hour) }
         ensures state { seen P.meaning C.kind self.new ≡ after (seen P.meaning C.kind self.old) (ShiftOf number hour) }
     {
-        let Some(i) = self.book.find(number) else {
-            return Err(Refusal::NotStanding);
-        };
+        let i = self.book.find(number).ok_or(Refusal::NotStanding)?;
         if hour >= 168 {
             return Err(Refusal::BadHours);
         }

@@ -43,7 +43,8 @@ impl<P: Plant, C: Cost> Planner<P, C> {
 
     // Gives back the network and the plant.
     pub fn into_parts(self) -> (Network, P)
-        ensures { (result.0 ≡ self.net) × (result.1 ≡ self.plant) }
+        ensures net { result.0 ≡ self.net }
+        ensures plant { result.1 ≡ self.plant }
     {
         (self.net, self.plant)
     }

@@ -37,9 +37,9 @@ impl<P: Plant, C: Cost> Planner<P, C> {
     pub fn serve(&mut self, slots: &mut [Slot]) -> Report
         ensures { Served (seen P.meaning C.kind self.old) slots.old (seen P.meaning C.kind self.new) slots.new result }
     {
-        for i in 0..slots.len() {
-            let answer = self.call(slots[i].call);
-            slots[i].answer = Some(answer);
+        for slot in slots.iter_mut() {
+            let answer = self.call(slot.call);
+            slot.answer = Some(answer);
         }
         self.report()
     }

@@ -29,16 +29,15 @@ impl<P: Plant, C: Cost> Planner<P, C> {
     {
         let order = self.checked_order(request)?;
         let all = Usable::all();
-        let Some(way) = find_way(
+        let way = find_way(
             &self.plant,
             &self.net,
             &all,
             &mut self.space,
             order,
             self.fit,
-        ) else {
-            return Err(Refusal::NoWay);
-        };
+        )
+        .ok_or(Refusal::NoWay)?;
         let row = Row { order, way };
         if self.plant.room() < row.runs_needed() {
             return Err(Refusal::NoRoom);
@@ -53,19 +52,12 @@ impl<P: Plant, C: Cost> Planner<P, C> {
             (λ why. Refuses (seen P.meaning C.kind self.now) (PlaceOf request channel route) why) }
     {
         let order = self.checked_order(request)?;
-        let Some(path) = named_path(&self.net, order.from, order.to, route) else {
-            return Err(Refusal::NotAPath);
-        };
-        let Some(block) = self.checked_block(channel, order.width) else {
-            return Err(Refusal::BadBlock);
-        };
-        let row = Row {
-            order,
-            way: Way {
-                channel: block,
-                path,
-            },
-        };
+        let path = named_path(&self.net, order.from, order.to, route).ok_or(Refusal::NotAPath)?;
+        let channel = self
+            .checked_block(channel, order.width)
+            .ok_or(Refusal::BadBlock)?;
+        let way = Way { channel, path };
+        let row = Row { order, way };
         if let Some(why) = first_fault(&self.plant, None, row) {
             return Err(why);
         }
