@@ -4,7 +4,7 @@ ghost use Rattle.orders.specs.declared.call.Call.TheVariants.{Cancel as CancelOf
 ghost use Rattle.planner.specs.Seen.{seen};
 
 use super::Planner;
-use crate::runs::{Deed, do_runs, first_fault};
+use crate::runs::{each_run, first_fault};
 use network::cost::Cost;
 use orders::call::{Accepted, Answer};
 use orders::refusal::Refusal;
@@ -18,7 +18,7 @@ impl<P: Plant, C: Cost> Planner<P, C> {
     {
         let i = self.book.find(number).ok_or(Refusal::NotStanding)?;
         let row = self.book.rows[i];
-        do_runs(&mut self.plant, Deed::Release, row);
+        each_run(&mut self.plant, row, P::release);
         self.book.remove(i);
         Ok(Accepted::Cancelled(row.order.number))
     }
@@ -35,11 +35,12 @@ impl<P: Plant, C: Cost> Planner<P, C> {
         let old = self.book.rows[i];
         let mut new = old;
         new.order.first = hour as u8;
+        // A fault is what is looked for, so it is no error until here: no method of Option says this more plainly.
         if let Some(why) = first_fault(&self.plant, Some(old), new) {
             return Err(why);
         }
-        do_runs(&mut self.plant, Deed::Release, old);
-        do_runs(&mut self.plant, Deed::Hold, new);
+        each_run(&mut self.plant, old, P::release);
+        each_run(&mut self.plant, new, P::hold);
         self.book.set_hour(i, hour as u8);
         Ok(Accepted::Stands(new))
     }

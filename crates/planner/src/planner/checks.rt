@@ -1,8 +1,9 @@
 ghost use Rattle.std.specs.Prelude.{◌≡◌, if◌then◌else◌, Some, None, MatchResult};
 ghost use Rattle.network.specs.Limits.{two_places};
-ghost use Rattle.orders.specs.Calls.{number_fits, width_fits, order_of, order_fault};
+ghost use Rattle.orders.specs.Calls.{number_fits, width_fits, order_of};
 ghost use Rattle.ways.specs.Hours.{hours_fit, block_fits};
 ghost use Rattle.planner.specs.Seen.{seen};
+ghost use Rattle.planner.specs.Taking.{fault_in};
 
 use super::Planner;
 use network::cost::Cost;
@@ -44,8 +45,8 @@ impl<P: Plant, C: Cost> Planner<P, C> {
     // The order that is asked for, if no check fails that book and place share; else the first that fails.
     pub(super) fn checked_order(&self, request: Request) -> Result<Order, Refusal>
         ensures { MatchResult result
-            (λ o. (None ≡ order_fault (seen P.meaning C.kind self.now).rules (P.meaning self.now.plant) (seen P.meaning C.kind self.now).standing request) × (o ≡ order_of request))
-            (λ why. Some why ≡ order_fault (seen P.meaning C.kind self.now).rules (P.meaning self.now.plant) (seen P.meaning C.kind self.now).standing request) }
+            (λ o. (None ≡ fault_in (seen P.meaning C.kind self.now) request) × (o ≡ order_of request))
+            (λ why. Some why ≡ fault_in (seen P.meaning C.kind self.now) request) }
     {
         if self.plant.size().links < self.net.link_count() {
             return Err(Refusal::FewerLinks);

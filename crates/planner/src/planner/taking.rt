@@ -7,7 +7,7 @@ ghost use Rattle.planner.specs.Seen.{seen};
 ghost use Rattle.planner.specs.Taking.{Takes, Refuses, joined};
 
 use super::Planner;
-use crate::runs::{Deed, do_runs, first_fault};
+use crate::runs::{each_run, first_fault};
 use network::cost::Cost;
 use network::usable::Usable;
 use orders::call::{Accepted, Answer};
@@ -72,7 +72,7 @@ impl<P: Plant, C: Cost> Planner<P, C> {
         ensures answer { result ≡ Stands row }
         ensures state { seen P.meaning C.kind self.new ≡ joined (seen P.meaning C.kind self.old) (stood row) }
     {
-        do_runs(&mut self.plant, Deed::Hold, row);
+        each_run(&mut self.plant, row, P::hold);
         self.book.push(row);
         Accepted::Stands(row)
     }

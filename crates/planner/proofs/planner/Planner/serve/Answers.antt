@@ -1,4 +1,4 @@
-use Rattle.std.proofs.Common.{◌≡◌, ◌<◌, ◌≤◌, length, get_or, set, Some, vec_items, sym, refl, ap, ◌∙◌, subst, arith}
+use Rattle.std.proofs.Common.{◌<◌, ◌≤◌, length, get_or, set, Some, vec_items, sym, refl, ap, ◌∙◌, subst, arith}
 use Rattle.orders.specs.Calls.{Rules, State, answer, plant_after, orders_after}
 use Rattle.orders.specs.declared.call.Slot.{Slot}
 use Rattle.orders.proofs.Numbers.{stood_apart}
