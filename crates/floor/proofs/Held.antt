@@ -1,8 +1,7 @@
 -- The channels that the rows of a book hold, one row after the other.
-use Rattle.std.proofs.Common.{◌≡◌, ℕ, ◌+◌, ◌<◌, ◌≤◌, Bool, false, ◌||◌, List, [], ◌∷◌, length, get_or, drop, sym, ap, ◌∙◌}
-use Rattle.std.specs.List.{AllByRecursion}
+use Rattle.std.proofs.Common.{◌≡◌, ℕ, ◌≤◌, Bool, ◌||◌, List, [], ◌∷◌, sym, refl, ap, ◌∙◌}
+use Rattle.std.specs.List.{AllByRecursion, list_any}
 use Rattle.std.proofs.ByRecursion.{All-append}
-use Rattle.std.proofs.lemmas.List.{at_drop_more, at_drop_all}
 use Rattle.calendar.specs.Week.{total}
 use Rattle.network.specs.Paths.{has}
 use Rattle.orders.specs.Standing.{block_has, stood, all_stood}
@@ -22,16 +21,9 @@ held_cons : (c : ℕ) (r : Row) (rows : List Row) → has c (held (r ∷ rows)) 
 held_cons c r rows =
     has_append c (own (stood r)).channels (held rows) ∙ ap (λ b. b || has c (held rows)) (has_counting c r.way.channel r.order.width)
 
--- a loop over the rows ys, which are rows: one row, and none
-module _ (rows ys : List Row) (e : ys ≡ rows) (c i : ℕ) where
-  pub held_step : (r : Row) (b : Bool) → i < length ys → r ≡ get_or ys i r → b ≡ row_has c r → has c (held (drop i rows)) ≡ (b || has c (held (drop (i + 1) rows)))
-  held_step r b l is here =
-      let inside : i < length rows = rw (← e) l in
-      let same : r ≡ get_or rows i r = rw e at is in
-      at_drop_more (λ zs. has c (held zs)) rows i r inside ∙ held_cons c (get_or rows i r) (drop (i + 1) rows) ∙ ap (λ t. t || has c (held (drop (i + 1) rows))) (sym (here ∙ ap (row_has c) same))
-
-  pub held_end : length ys ≤ i → has c (held (drop i rows)) ≡ false
-  held_end l = at_drop_all (λ zs. has c (held zs)) rows i (rw (← e) l)
+pub held_any : (c : ℕ) (rows : List Row) → list_any (row_has c) rows ≡ has c (held rows)
+held_any c [] = refl
+held_any c (r ∷ rows) = ap (λ b. row_has c r || b) (held_any c rows) ∙ sym (held_cons c r rows)
 
 -- every block lies within channels 1 to 16
 held_within : (rows : List Row) → AllByRecursion (λ x. (1 ≤ x) × (x ≤ 16)) (held rows)

@@ -1,3 +1,4 @@
+pub mod Roads
 pub mod Sums
 pub mod Numbers
 pub mod Paths

@@ -1,11 +1,9 @@
 -- Laws of `sum_by`, `total` and `greatest`.
-use Rattle.std.proofs.Common.{◌≡◌, ℕ, zero, suc, ◌+◌, ◌*◌, ◌<◌, ◌≤◌, max, Bool, true, false, cond, List, [], ◌∷◌, map, length, get_or, take, sum_by, sym, refl, ap, ◌∙◌, ⊎_elim, add-mul, one-mul, zero-mul, add-one, arith}
+use Rattle.std.proofs.Common.{◌≡◌, ℕ, zero, suc, ◌+◌, ◌*◌, ◌<◌, ◌≤◌, Bool, true, false, cond, List, [], ◌∷◌, map, sum_by, sym, refl, ap, ⊎_elim, add-mul, one-mul, zero-mul, arith}
 use Rattle.std.specs.List.{AllByRecursion}
-use Rattle.std.proofs.lemmas.List.{take_all}
-use Rattle.std.proofs.lemmas.List.Sums.{sum_by-cons, sum_by_more}
+use Rattle.std.proofs.lemmas.List.Sums.{sum_by-cons}
 use Rattle.std.proofs.lemmas.Bool.{cases_lt}
 use Rattle.calendar.specs.Week.{total}
-use Rattle.calendar.proofs.Sums.{total_suc}
 use Rattle.orders.specs.Standing.{num}
 use Rattle.floor.specs.Floor.{greatest}
 
@@ -29,16 +27,6 @@ pub sum_by_map : {X Y : Type 0} (h : X → Y) (f : Y → ℕ) (xs : List X) → 
 sum_by_map h f [] = refl
 sum_by_map h f (x ∷ xs) =
     omega (arith, sum_by-cons f (h x) (map h xs), sum_by-cons (λ y. f (h y)) x xs, sum_by_map h f xs)
-
--- a loop over the list ys, which is xs: one more, and all
-pub sum_by_step : {X : Type 0} (f : X → ℕ) (xs ys : List X) (i : ℕ) (x : X) (s r : ℕ) → ys ≡ xs → i < length ys → x ≡ get_or ys i x → s ≡ sum_by f (take i xs) → r ≡ f x → s + r ≡ sum_by f (take (i + 1) xs)
-sum_by_step f xs ys i x s r e l is inv here =
-    let inside : i < length xs = rw (← e) l in
-    let same : x ≡ get_or xs i x = rw e at is in
-    omega (arith, sum_by_more f xs i x inside, ap f same)
-
-pub sum_by_end : {X : Type 0} (f : X → ℕ) (xs ys : List X) (i : ℕ) (s : ℕ) → ys ≡ xs → length ys ≤ i → s ≡ sum_by f (take i xs) → s ≡ sum_by f xs
-sum_by_end f xs ys i s e l inv = inv ∙ ap (sum_by f) (take_all i xs (rw (← e) l))
 
 -- ---- over the numbers below n
 
@@ -66,19 +54,7 @@ total_times (suc n) b d = rw (total_times n b d, add-mul) (ap (λ x. x + total n
     one true = sym (one-mul d)
     one false = sym (zero-mul d)
 
--- a loop that adds up f 1, f 2 and so on
-pub total_number : (f : ℕ → ℕ) (i s r : ℕ) → s ≡ total i (λ k. f (suc k)) → r ≡ f (i + 1) → s + r ≡ total (i + 1) (λ k. f (suc k))
-total_number f i s r inv here = omega (arith, total_suc i (λ k. f (suc k)), ap f (add-one i))
-
 -- ---- the greatest
-
-pub greatest_none : (f : ℕ → ℕ) → greatest 0 f ≡ 0
-unfolding greatest
-greatest_none f = refl
-
-pub greatest_suc : (n : ℕ) (f : ℕ → ℕ) → greatest (n + 1) f ≡ max (greatest n f) (f n)
-unfolding greatest
-greatest_suc n f = rw add-one
 
 -- what bounds each value bounds the greatest
 pub greatest_least : (n : ℕ) (f : ℕ → ℕ) (m : ℕ) → ((k : ℕ) → k < n → f k ≤ m) → greatest n f ≤ m
@@ -88,11 +64,3 @@ greatest_least (suc n) f m h = omega (arith, greatest_least n f m (λ k l. h k (
 
 pub greatest_zero : (n : ℕ) (f : ℕ → ℕ) → ((k : ℕ) → f k ≡ 0) → greatest n f ≡ 0
 greatest_zero n f h = omega (arith, greatest_least n f 0 (λ k _. omega (arith, h k)))
-
--- a loop that keeps the greatest
-pub greatest_step : (f : ℕ → ℕ) (n m x r : ℕ) → m ≡ greatest n f → x ≡ f n → r ≡ max m x → r ≡ greatest (n + 1) f
-greatest_step f n m x r inv here is = omega (arith, greatest_suc n f)
-
--- the same of f 1, f 2 and so on
-pub greatest_number : (f : ℕ → ℕ) (n m x r : ℕ) → m ≡ greatest n (λ k. f (suc k)) → x ≡ f (n + 1) → r ≡ max m x → r ≡ greatest (n + 1) (λ k. f (suc k))
-greatest_number f n m x r inv here is = omega (arith, greatest_suc n (λ k. f (suc k)), ap f (add-one n))

@@ -13,7 +13,7 @@
 --   busiest counts net orders v  the greatest need at v over the hours of the week
 --   floor_by counts net orders   the greatest need over all places and all hours of the week
 --   floor net orders             the same, where every link counts
-use Rattle.std.specs.Prelude.{ℕ, zero, suc, ◌+◌, ◌-◌, ◌/◌, max, Bool, true, false, cond, ◌&&◌, ◌||◌, List, vec_items, vec_len, sum_by, ◌==◌}
+use Rattle.std.specs.Prelude.{ℕ, zero, suc, ◌+◌, ◌-◌, ◌/◌, max, Bool, true, false, if◌then◌else◌, ◌&&◌, ◌||◌, List, vec_items, vec_len, sum_by, ◌==◌}
 use Rattle.calendar.specs.Week.{total}
 use Rattle.network.specs.Paths.{when_there}
 use Rattle.network.specs.Places.{link_at}
@@ -41,7 +41,7 @@ ends_at o v = o.from == v || o.to == v
 
 -- the order's width at place v in hour h
 abbrev pub share : Order → ℕ → ℕ → ℕ
-share o v h = cond (ends_at o v && runs_in o h) o.width 0
+share o v h = if ends_at o v && runs_in o h then o.width else 0
 
 -- the widths of the orders that end at v and run in h, added up
 abbrev pub load : List Order → ℕ → ℕ → ℕ
@@ -57,7 +57,7 @@ links_at counts net v h = total (vec_len net.links) (λ i. num (counts (suc i) h
 
 -- w divided by k and rounded up
 abbrev pub rounded_up : ℕ → ℕ → ℕ
-rounded_up w k = cond (k == 0) 0 ((w + (k - 1)) / k)
+rounded_up w k = if k == 0 then 0 else (w + (k - 1)) / k
 
 -- how many channels the links at v must have for the load there in hour h
 abbrev pub need : (ℕ → ℕ → Bool) → Network → List Order → ℕ → ℕ → ℕ

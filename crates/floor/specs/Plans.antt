@@ -19,7 +19,7 @@
 --   cell_hours e            the cells that an order holds: links times channels times hours
 --   channel_hours es        the cells that all of them hold
 --   reported net es         the four figures of a report
-use Rattle.std.specs.Prelude.{◌≡◌, ℕ, ◌+◌, ◌*◌, ◌≤◌, Bool, true, cond, ◌&&◌, List, [], ◌∷◌, map, length, Some, sum_by, ◌≢◌}
+use Rattle.std.specs.Prelude.{◌≡◌, ℕ, ◌+◌, ◌*◌, ◌≤◌, Bool, true, if◌then◌else◌, ◌&&◌, List, [], ◌∷◌, map, length, Some, sum_by, ◌≢◌}
 use Rattle.std.specs.List.{range_with_len, flat_map, AllByRecursion}
 use Rattle.network.specs.Paths.{crossing, leads, touched, has, no_twice}
 use Rattle.network.specs.declared.network.Network.{Network}
@@ -73,7 +73,7 @@ pub record Plan (net : Network) (orders : List Order) (plan : List Placed) : Typ
 -- how many different numbers stand in the list: each is counted where it stands last
 abbrev pub different : List ℕ → ℕ
 different [] = 0
-different (x ∷ xs) = cond (has x xs) 0 1 + different xs
+different (x ∷ xs) = (if has x xs then 0 else 1) + different xs
 
 -- the channels of all orders of the plan, one after the other
 abbrev pub channels_in : List Placed → List ℕ

@@ -9,7 +9,7 @@ use orders::row::Row;
 fn cells(links: u8, channels: u8, hours: u8) -> u32
     ensures { result ≡ links * (channels * hours) }
 {
-    links as u32 * (channels as u32 * hours as u32)
+    u32::from(links) * (u32::from(channels) * u32::from(hours))
 }
 
 // The cells that the row's order holds.
@@ -24,9 +24,5 @@ fn cell_hours(row: &Row) -> u32
 pub fn channel_hours(book: &Book) -> u32
     ensures { result ≡ channel_hours (all_stood book.now.rows.items) }
 {
-    let mut sum: u32 = 0;
-    for row in book.rows.as_slice() {
-        sum += cell_hours(row);
-    }
-    sum
+    book.rows.iter().map(cell_hours).sum()
 }

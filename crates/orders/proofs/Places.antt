@@ -1,12 +1,14 @@
 -- The row of a number, by its place.
-use Rattle.std.proofs.Common.{◌≡◌, ℕ, zero, suc, ◌+◌, ◌<◌, ◌≤◌, true, false, eqb, List, [], ◌∷◌, ◌++◌, length, get_or, take, set, sym, refl, ap, ◌∙◌, subst, arith}
-use Rattle.std.specs.List.{remove}
-use Rattle.std.proofs.lemmas.List.{take_more, take_all, take-map, length-map}
-use Rattle.std.proofs.lemmas.Bool.{or_parts, or_from, eq-eqb, ne_eqb}
+use Rattle.std.proofs.Common.{◌≡◌, ℕ, zero, suc, ◌<◌, ◌≤◌, Bool, true, false, eqb, List, [], ◌∷◌, length, get_or, set, Some, None, Option, MatchOption, sym, refl, ap, ◌∙◌, ⊎_elim, arith}
+use Rattle.std.specs.List.{remove, position, position_or_len}
+use Rattle.std.proofs.lemmas.List.{get_or-map}
+use Rattle.std.proofs.lemmas.List.Quantifiers.{position-Some}
+use Rattle.std.proofs.lemmas.Bool.{cases_Bool, eqb-true}
+use Rattle.std.proofs.lemmas.Bool.Decides.{nat_tests}
 use Rattle.orders.specs.Book.{nobody, at_hour, stands, pick, strike, moved, Found}
 use Rattle.orders.specs.Standing.{Standing, stood, all_stood}
 use Rattle.orders.specs.declared.row.Row.{Row}
-use Rattle.orders.proofs.Rows.{row_at}
+use Rattle.orders.proofs.Rows.{row_at, stood_length}
 
 -- i is the place of the first order of number n
 record PlaceOf (n : ℕ) (es : List Standing) (i : ℕ) : Type 0 where
@@ -16,44 +18,40 @@ record PlaceOf (n : ℕ) (es : List Standing) (i : ℕ) : Type 0 where
   pub gone : remove es i ≡ strike n es
   pub hour : (f : ℕ) → set es i (at_hour f (pick n es)) ≡ moved n f es
 
-row_first : (n : ℕ) (es : List Standing) (i : ℕ) → i < length es → stands n (take i es) ≡ false → (get_or es i nobody).order.number ≡ n → PlaceOf n es i
+row_first : (n : ℕ) (es : List Standing) (i : ℕ) → i < length es → ((k : ℕ) → k < i → eqb (get_or es k nobody).order.number n ≡ false) → eqb (get_or es i nobody).order.number n ≡ true → PlaceOf n es i
 unfolding stands pick strike moved
-row_first n [] i l h e = absurd (omega arith)
-row_first n (r ∷ rs) zero l h e =
-    let t = eq-eqb r.order.number n e in
-    record { found = rw t; same = rw t e; row = rw t; gone = rw t; hour = λ f. rw t }
-row_first n (r ∷ rs) (suc i) l h e =
-    let p = or_parts (eqb r.order.number n) (stands n (take i rs)) h in
-    let t = p.0 in
-    let R = row_first n rs i (omega arith) p.1 e in
-    record { found = rw t R.found; same = rw t R.same; row = rw t R.row; gone = rw t (ap (λ x. r ∷ x) R.gone); hour = λ f. rw t (ap (λ x. r ∷ x) (R.hour f)) }
+row_first n [] i l before t = absurd (omega arith)
+row_first n (r ∷ rs) zero l before t = record { found = rw t; same = rw t (eqb-true r.order.number n t); row = rw t; gone = rw t; hour = λ f. rw t }
+row_first n (r ∷ rs) (suc i) l before t =
+    let o = before 0 (omega arith) in
+    let R = row_first n rs i (omega arith) (λ k h. before (suc k) (omega arith)) t in
+    record { found = rw o R.found; same = rw o R.same; row = rw o R.row; gone = rw o (ap (λ x. r ∷ x) R.gone); hour = λ f. rw o (ap (λ x. r ∷ x) (R.hour f)) }
 
-stands_push : (n : ℕ) (es : List Standing) (r : Standing) → stands n es ≡ false → eqb r.order.number n ≡ false → stands n (es ++ (r ∷ [])) ≡ false
+abbrev is_number : ℕ → Row → Bool
+is_number n r = eqb r.order.number n
+
+found_at : (n : ℕ) (rows : List Row) (i : ℕ) → position (is_number n) rows ≡ Some i → Found n rows i
+found_at n [] i e = cc
+found_at n (r ∷ rs) i e =
+    let q = position-Some (is_number n) (r ∷ rs) i r e in
+    let stood_at : (k : ℕ) → k < length (r ∷ rs) → get_or (all_stood (r ∷ rs)) k nobody ≡ stood (get_or (r ∷ rs) k r) = λ k l. get_or-map stood (r ∷ rs) k r nobody l in
+    let p = row_first n (all_stood (r ∷ rs)) i (omega (arith, q.0, stood_length (r ∷ rs)))
+    (λ k h. ap (λ (x : Standing). eqb x.order.number n) (stood_at k (omega (arith, h, q.0))) ∙ q.2 k h)
+    (ap (λ (x : Standing). eqb x.order.number n) (stood_at i q.0) ∙ q.1) in
+    record { there = q.0; found = p.found; same = p.same; row = λ x z. sym (row_at (r ∷ rs) i x q.0 z) ∙ p.row; gone = p.gone; hour = p.hour }
+
+none_stands : (n : ℕ) (rows : List Row) → length rows ≤ position_or_len (is_number n) rows → stands n (all_stood rows) ≡ false
 unfolding stands
-stands_push n [] r h e = rw e
-stands_push n (x ∷ xs) r h e = let p = or_parts (eqb x.order.number n) (stands n xs) h in or_from (eqb x.order.number n) (stands n (xs ++ (r ∷ []))) p.0 (stands_push n xs r p.1 e)
+none_stands n [] h = refl
+none_stands n (r ∷ rs) h = ⊎_elim
+    (λ (t : eqb r.order.number n ≡ true). absurd (let z = rw t at h in omega (arith, z)))
+    (λ (t : eqb r.order.number n ≡ false). rw t (none_stands n rs (let z = rw t at h in omega (arith, z))))
+    (cases_Bool (eqb r.order.number n))
 
-find_more : (n : ℕ) (es : List Standing) (i : ℕ) → i < length es → stands n (take i es) ≡ false → ((get_or es i nobody).order.number ≡ n → ⊥) → stands n (take (i + 1) es) ≡ false
-find_more n es i l h e = rw (take_more es i nobody l) (stands_push n (take i es) (get_or es i nobody) h (ne_eqb (get_or es i nobody).order.number n e))
+none_at : (n : ℕ) (rows : List Row) → position (is_number n) rows ≡ None → length rows ≤ position_or_len (is_number n) rows
+none_at n rows e = grind (arith, nat_tests)
 
--- the same of the rows of a book
-module _ (n : ℕ) (rows : List Row) (i : ℕ) where
-  there : i < length rows → i < length (all_stood rows)
-  there l = subst (λ k. i < k) (sym (length-map rows stood)) l
-
-  pub found_row : (r : Row) → i < length rows → r ≡ get_or rows i r → stands n (all_stood (take i rows)) ≡ false → r.order.number ≡ n → Found n rows i
-  found_row r l e before same =
-      let p = row_first n (all_stood rows) i (there l) (ap (stands n) (take-map stood i rows) ∙ before) (ap (λ (x : Standing). x.order.number) (row_at rows i r l e) ∙ same) in
-      record { there = l; found = p.found; same = p.same; row = λ x q. sym (row_at rows i x l q) ∙ p.row; gone = p.gone; hour = p.hour }
-
-  pub not_yet : (r : Row) → i < length rows → r ≡ get_or rows i r → stands n (all_stood (take i rows)) ≡ false → (r.order.number ≡ n → ⊥) → stands n (all_stood (take (i + 1) rows)) ≡ false
-  not_yet r l e before other =
-      ap (stands n) (sym (take-map stood (i + 1) rows))
-      ∙ find_more n (all_stood rows) i (there l) (ap (stands n) (take-map stood i rows) ∙ before) (λ z. other (sym (ap (λ (x : Standing). x.order.number) (row_at rows i r l e)) ∙ z))
-
-  pub nowhere : length rows ≤ i → stands n (all_stood (take i rows)) ≡ false → stands n (all_stood rows) ≡ false
-  nowhere l before = ap (λ xs. stands n (all_stood xs)) (sym (take_all i rows l)) ∙ before
-
-pub none_before : (n : ℕ) (rows : List Row) → stands n (all_stood (take 0 rows)) ≡ false
-unfolding stands
-none_before n rows = refl
+-- what the first place of a row with the number says
+pub found_by : (n : ℕ) (rows : List Row) (o : Option ℕ) → o ≡ position (λ r. eqb r.order.number n) rows → MatchOption o (stands n (all_stood rows) ≡ false) (λ i. Found n rows i)
+found_by n rows None e = none_stands n rows (none_at n rows (sym e))
+found_by n rows (Some i) e = found_at n rows i (sym e)

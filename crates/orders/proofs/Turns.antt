@@ -16,9 +16,6 @@ module _ (f : Meaning → Run → Meaning) (m : Meaning) (e : Standing) where
   unfolding on_link
   link_more i w l k n r a x b c = rw add-one (c ∙ ap (λ y. f y r) a ∙ ap (f (on_link f m e i w)) (b ∙ ap (λ y. run_of e y (e.channel + w)) x))
 
-  pub link_all : (i w : ℕ) (k : Meaning) → k ≡ on_link f m e i w → w ≤ e.order.width → e.order.width ≤ w → k ≡ on_link f m e i e.order.width
-  link_all i w k a p q = let z : w ≡ e.order.width = omega arith in a ∙ ap (on_link f m e i) z
-
   pub links_none : m ≡ on_links f m e 0
   unfolding on_links
   links_none = refl

@@ -8,7 +8,7 @@
 --   numbers rows     the order numbers of the rows
 --   pushed es e      the list with one order more at its end, where fewer than 64 stand and none has its number
 --   Found n rows i   row i of the book has the first order of number n
-use Rattle.std.specs.Prelude.{◌≡◌, ℕ, ◌<◌, Bool, true, false, cond, ◌||◌, List, [], ◌∷◌, ◌++◌, map, length, ◌==◌, nat_le, slice_index_or, slice_set}
+use Rattle.std.specs.Prelude.{◌≡◌, ℕ, ◌<◌, Bool, true, false, if◌then◌else◌, ◌||◌, List, [], ◌∷◌, ◌++◌, map, length, ◌==◌, nat_le, slice_index_or, slice_set}
 use Rattle.std.specs.List.{remove}
 use Rattle.orders.specs.Standing.{Standing, stood, all_stood}
 use Rattle.orders.specs.declared.row.Row.{Row}
@@ -23,11 +23,11 @@ stands n (e ∷ es) = e.order.number == n || stands n es
 
 unfoldable pub pick : ℕ → List Standing → Standing
 pick n [] = nobody
-pick n (e ∷ es) = cond (e.order.number == n) e (pick n es)
+pick n (e ∷ es) = if e.order.number == n then e else pick n es
 
 unfoldable pub strike : ℕ → List Standing → List Standing
 strike n [] = []
-strike n (e ∷ es) = cond (e.order.number == n) es (e ∷ strike n es)
+strike n (e ∷ es) = if e.order.number == n then es else e ∷ strike n es
 
 abbrev pub at_hour : ℕ → Standing → Standing
 at_hour f e = record {
@@ -38,13 +38,13 @@ at_hour f e = record {
 
 unfoldable pub moved : ℕ → ℕ → List Standing → List Standing
 moved n f [] = []
-moved n f (e ∷ es) = cond (e.order.number == n) (at_hour f e ∷ es) (e ∷ moved n f es)
+moved n f (e ∷ es) = if e.order.number == n then at_hour f e ∷ es else e ∷ moved n f es
 
 abbrev pub numbers : List Row → List ℕ
 numbers rows = map (λ r. r.order.number) rows
 
 abbrev pub pushed : List Standing → Standing → List Standing
-pushed es e = cond (nat_le 64 (length es) || stands e.order.number es) es (es ++ (e ∷ []))
+pushed es e = if nat_le 64 (length es) || stands e.order.number es then es else es ++ (e ∷ [])
 
 pub record Found (n : ℕ) (rows : List Row) (i : ℕ) : Type 0 where
   pub there : i < length rows

@@ -11,7 +11,7 @@
 --   orders_after g m es c  what stands then
 --   State C                rules, what the plant means, and what stands
 --   answers_in s c         what the call answers in a state; after s c is the state that it leaves
-use Rattle.std.specs.Prelude.{ℕ, ◌*◌, Bool, cond, not, ◌&&◌, List, [], ◌∷◌, ◌++◌, length, Some, None, Ok, Err, vec_len, Option, Result, nat_le, nat_lt}
+use Rattle.std.specs.Prelude.{ℕ, ◌*◌, Bool, if◌then◌else◌, not, ◌&&◌, List, [], ◌∷◌, ◌++◌, length, Some, None, Ok, Err, vec_len, Option, Result, nat_le, nat_lt}
 use Rattle.calendar.specs.Meaning.{Meaning, room_of, taken, accepted}
 use Rattle.network.specs.Costs.{Kind}
 use Rattle.network.specs.Limits.{two_places}
@@ -89,13 +89,14 @@ width_fits w = nat_le 1 w && nat_le w 4
 
 abbrev pub order_fault : {C : Type 0} → Rules C → Meaning → List Standing → Request → Option Refusal
 order_fault g m es r =
-    cond (nat_lt m.links (vec_len g.net.links)) (Some FewerLinks)
-    (cond (not (number_fits r.number)) (Some BadNumber)
-    (cond (not (two_places g.net.places r.from r.to)) (Some BadEnds)
-    (cond (not (width_fits r.width)) (Some BadWidth)
-    (cond (not (hours_fit (order_of r))) (Some BadHours)
-    (cond (stands r.number es) (Some StandsAlready)
-    (cond (nat_le 64 (length es)) (Some BookFull) None))))))
+    if nat_lt m.links (vec_len g.net.links) then Some FewerLinks
+    else if not (number_fits r.number) then Some BadNumber
+    else if not (two_places g.net.places r.from r.to) then Some BadEnds
+    else if not (width_fits r.width) then Some BadWidth
+    else if not (hours_fit (order_of r)) then Some BadHours
+    else if stands r.number es then Some StandsAlready
+    else if nat_le 64 (length es) then Some BookFull
+    else None
 
 -- the number of runs that the order has
 abbrev pub runs_needed : Standing → ℕ
@@ -103,7 +104,7 @@ runs_needed e = length e.path * e.order.width
 
 -- there is room for every run of the order; the last check
 abbrev pub if_room : Meaning → Standing → Said
-if_room m e = cond (nat_lt (room_of m) (runs_needed e)) (refused NoRoom) (stands_so e)
+if_room m e = if nat_lt (room_of m) (runs_needed e) then refused NoRoom else stands_so e
 
 abbrev pub book_answer : {C : Type 0} → Rules C → Meaning → List Standing → Request → Said
 book_answer g m es r =
@@ -113,20 +114,18 @@ book_answer g m es r =
 abbrev pub place_answer : {C : Type 0} → Rules C → Meaning → List Standing → Request → ℕ → Route → Said
 place_answer g m es r a p =
     unless (order_fault g m es r)
-    (cond (not (is_route g.net r.from r.to p)) (refused NotAPath)
-    (cond (not (block_fits m.channels a r.width)) (refused BadBlock)
-    (unless (first_fault m (own_cells None) (along (order_of r) (given a p)))
-    (if_room m (along (order_of r) (given a p))))))
+    (if not (is_route g.net r.from r.to p) then refused NotAPath
+    else if not (block_fits m.channels a r.width) then refused BadBlock
+    else unless (first_fault m (own_cells None) (along (order_of r) (given a p))) (if_room m (along (order_of r) (given a p))))
 
 abbrev pub cancel_answer : List Standing → ℕ → Said
-cancel_answer es n = cond (stands n es) (cancelled n) (refused NotStanding)
+cancel_answer es n = if stands n es then cancelled n else refused NotStanding
 
 abbrev pub shift_answer : Meaning → List Standing → ℕ → ℕ → Said
 shift_answer m es n f =
-    cond (not (stands n es)) (refused NotStanding)
-    (cond (not (nat_lt f 168)) (refused BadHours)
-    (unless (first_fault m (own_cells (Some (pick n es))) (at_hour f (pick n es)))
-    (stands_so (at_hour f (pick n es)))))
+    if not (stands n es) then refused NotStanding
+    else if not (nat_lt f 168) then refused BadHours
+    else unless (first_fault m (own_cells (Some (pick n es))) (at_hour f (pick n es))) (stands_so (at_hour f (pick n es)))
 
 abbrev pub answer : {C : Type 0} → Rules C → Meaning → List Standing → Call → Said
 answer g m es (Book r) = book_answer g m es r
@@ -148,13 +147,13 @@ effect g m es (Shift n f) = hold_all (release_all m (pick n es)) (at_hour f (pic
 -- what stands after a call, fed its arguments and whether it was accepted; a booked order gets the way that the
 -- search names where `taken` says which cells are not free and there are cs channels
 abbrev pub fed : {C : Type 0} → Rules C → (ℕ → ℕ → ℕ → Bool) → ℕ → List Standing → Call → Bool → List Standing
-fed g taken cs es (Book r) ok = cond ok (when_there (way_for g taken cs (order_of r)) es (λ w. es ++ (along (order_of r) w ∷ []))) es
-fed g taken cs es (Place r a p) ok = cond ok (es ++ (along (order_of r) (given a p) ∷ [])) es
-fed g taken cs es (Cancel n) ok = cond ok (strike n es) es
-fed g taken cs es (Shift n f) ok = cond ok (moved n f es) es
+fed g taken cs es (Book r) ok = if ok then when_there (way_for g taken cs (order_of r)) es (λ w. es ++ (along (order_of r) w ∷ [])) else es
+fed g taken cs es (Place r a p) ok = if ok then es ++ (along (order_of r) (given a p) ∷ []) else es
+fed g taken cs es (Cancel n) ok = if ok then strike n es else es
+fed g taken cs es (Shift n f) ok = if ok then moved n f es else es
 
 abbrev pub plant_after : {C : Type 0} → Rules C → Meaning → List Standing → Call → Meaning
-plant_after g m es c = cond (was_accepted (answer g m es c)) (effect g m es c) m
+plant_after g m es c = if was_accepted (answer g m es c) then effect g m es c else m
 
 abbrev pub orders_after : {C : Type 0} → Rules C → Meaning → List Standing → Call → List Standing
 orders_after g m es c = fed g (taken m) m.channels es c (was_accepted (answer g m es c))

@@ -5,7 +5,7 @@
 --   release_all m e       what is left once each is released
 --   first_fault m own e   the first cell of the order that is not free, by link in path order, then channel, then hour
 --                         from the first; a held cell of which `own` holds counts as free
-use Rattle.std.specs.Prelude.{ℕ, zero, suc, ◌+◌, Bool, false, cond, not, ◌&&◌, length, Some, None, Option, slice_index}
+use Rattle.std.specs.Prelude.{ℕ, zero, suc, ◌+◌, Bool, false, if◌then◌else◌, not, ◌&&◌, length, Some, None, Option, slice_index}
 use Rattle.calendar.specs.Week.{later}
 use Rattle.calendar.specs.Meaning.{Meaning, is_held, after_hold, after_release}
 use Rattle.calendar.specs.declared.run.Run.{Run}
@@ -48,8 +48,9 @@ first_below t (suc n) = when_there (first_below t n) (t n) (λ x. Some x)
 -- why the cell is not free: it is closed, or held and not by the order itself
 abbrev pub cell_fault : Meaning → (ℕ → ℕ → ℕ → Bool) → ℕ → ℕ → ℕ → Option Refusal
 cell_fault m own l c h =
-    cond (m.closed l c h) (Some (CellClosed (record { link = l; channel = c; hour = h })))
-    (cond (is_held m l c h && not (own l c h)) (Some (CellHeld (record { link = l; channel = c; hour = h }))) None)
+    if m.closed l c h then Some (CellClosed (record { link = l; channel = c; hour = h }))
+    else if is_held m l c h && not (own l c h) then Some (CellHeld (record { link = l; channel = c; hour = h }))
+    else None
 
 -- the same for the first n hours of the order on channel c of link l
 abbrev pub run_fault : Meaning → (ℕ → ℕ → ℕ → Bool) → Standing → ℕ → ℕ → ℕ → Option Refusal

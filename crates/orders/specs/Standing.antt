@@ -9,7 +9,7 @@
 --   in_cell e l c h     one of the order's runs covers the cell
 --   orders_in es l c h  how many of the orders are in the cell
 --   cells_on e l        how many cells of link l the order is in: width times hours, where it crosses the link
-use Rattle.std.specs.Prelude.{ℕ, ◌+◌, ◌*◌, Bool, cond, ◌&&◌, List, map, sum_by, nat_le, nat_lt}
+use Rattle.std.specs.Prelude.{ℕ, ◌+◌, ◌*◌, Bool, if◌then◌else◌, ◌&&◌, List, map, sum_by, nat_le, nat_lt}
 use Rattle.calendar.specs.Week.{covers}
 use Rattle.network.specs.Paths.{has, path_numbers}
 use Rattle.ways.specs.declared.order.Order.{Order}
@@ -28,7 +28,7 @@ all_stood rows = map stood rows
 
 -- 1 for yes, 0 for no
 abbrev pub num : Bool → ℕ
-num b = cond b 1 0
+num b = if b then 1 else 0
 
 abbrev pub crosses : Standing → ℕ → Bool
 crosses e l = has l e.path
@@ -49,4 +49,4 @@ abbrev pub orders_in : List Standing → ℕ → ℕ → ℕ → ℕ
 orders_in es l c h = sum_by (λ e. num (in_cell e l c h)) es
 
 abbrev pub cells_on : Standing → ℕ → ℕ
-cells_on e l = cond (crosses e l) (e.order.width * e.order.hours) 0
+cells_on e l = if crosses e l then e.order.width * e.order.hours else 0

@@ -1,8 +1,11 @@
 ghost use Rattle.std.specs.Prelude.{◌≡◌};
-ghost use Rattle.orders.specs.Numbers.{nowhere, refusal_number, refusal_place};
+ghost use Rattle.orders.specs.Numbers.{refusal_number, refusal_place};
+
+use std::error::Error;
+use std::fmt;
 
 // A cell: one channel of one link in one hour.
-#[derive(Clone, Copy)]
+#[derive(Clone, Copy, Debug, Default, PartialEq, Eq)]
 pub struct Cell {
     pub link: u8,
     pub channel: u8,
@@ -10,7 +13,7 @@ pub struct Cell {
 }
 
 // Why a planner refuses a call, in the order of the checks.
-#[derive(Clone, Copy)]
+#[derive(Clone, Copy, Debug, PartialEq, Eq)]
 pub enum Refusal {
     FewerLinks,
     BadNumber,
@@ -26,17 +29,6 @@ pub enum Refusal {
     CellHeld(Cell),
     NoRoom,
     NotStanding,
-}
-
-// The place that stands for none.
-fn no_cell() -> Cell
-    ensures { result ≡ nowhere }
-{
-    Cell {
-        link: 0,
-        channel: 0,
-        hour: 0,
-    }
 }
 
 impl Refusal {
@@ -68,7 +60,30 @@ impl Refusal {
         match self {
             Refusal::CellClosed(cell) => cell,
             Refusal::CellHeld(cell) => cell,
-            _ => no_cell(),
+            _ => Cell::default(),
         }
     }
 }
+
+impl fmt::Display for Refusal {
+    fn fmt<W: fmt::Write>(&self, f: &mut fmt::Formatter<W>) -> fmt::Result {
+        f.write_str(match self {
+            Refusal::FewerLinks => "the plant has fewer links than the network",
+            Refusal::BadNumber => "no order may have the number",
+            Refusal::BadEnds => "the ends are not two places",
+            Refusal::BadWidth => "no order may be so wide",
+            Refusal::BadHours => "the hours are not hours of the week",
+            Refusal::StandsAlready => "an order of the number stands already",
+            Refusal::BookFull => "the book is full",
+            Refusal::NoWay => "no way",
+            Refusal::NotAPath => "the links are not a path",
+            Refusal::BadBlock => "the block is not within the channels",
+            Refusal::CellClosed(_) => "a cell is closed",
+            Refusal::CellHeld(_) => "a cell is held",
+            Refusal::NoRoom => "no room",
+            Refusal::NotStanding => "no order of the number stands",
+        })
+    }
+}
+
+impl Error for Refusal {}

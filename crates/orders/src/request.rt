@@ -1,5 +1,5 @@
 // An order as a customer asks for it, in numbers of any value.
-#[derive(Clone, Copy)]
+#[derive(Clone, Copy, Debug, PartialEq, Eq)]
 pub struct Request {
     pub number: u32,
     pub from: u32,

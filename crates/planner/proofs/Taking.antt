@@ -19,6 +19,12 @@ use Rattle.orders.specs.declared.request.Request.{Request}
 use Rattle.orders.proofs.Checks.{Checked, checked, no_refusal}
 use Rattle.planner.specs.Taking.{Takes, Refuses}
 
+abbrev pub state_of : {C : Type 0} → Rules C → Meaning → List Standing → State C
+state_of g m es = record { rules = g; plant = m; standing = es }
+
+pub same_state : {C : Type 0} (g : Rules C) (m n : Meaning) (es fs : List Standing) → m ≡ n → es ≡ fs → state_of g m es ≡ state_of g n fs
+same_state g m n es fs p q = rw (p, q) refl
+
 module _ {C : Type 0} (g : Rules C) (m : Meaning) (es : List Standing) where
   state : State C
   state = record { rules = g; plant = m; standing = es }
@@ -38,8 +44,7 @@ module _ {C : Type 0} (g : Rules C) (m : Meaning) (es : List Standing) where
       let no : was_accepted (answer g m es c) ≡ false = ap was_accepted e ∙ not_accepted why in
       record {
         answer = sym e;
-        plant = sym (cond-false (was_accepted (answer g m es c)) (effect g m es c) m no);
-        standing = sym (ap (fed g (taken m) m.channels es c) no ∙ fed_refused (taken m) m.channels c);
+        state = same_state g m _ es _ (sym (cond-false (was_accepted (answer g m es c)) (effect g m es c) m no)) (sym (ap (fed g (taken m) m.channels es c) no ∙ fed_refused (taken m) m.channels c));
       }
 
   -- the last checks, once those that book and place share have passed
@@ -55,12 +60,6 @@ module _ {C : Type 0} (g : Rules C) (m : Meaning) (es : List Standing) where
   crowded e room = cond-true (ltb (room_of m) (runs_needed e)) (refused NoRoom) (stands_so e) (lt-ltb (room_of m) (runs_needed e) room)
 
   module _ (r : Request) where
-    faulty : (x : Said) (why : Refusal) → Some why ≡ order_fault g m es r → unless (order_fault g m es r) x ≡ refused why
-    faulty x why f = ap (λ o. unless o x) (sym f)
-
-    pub book_faulty : (why : Refusal) → Some why ≡ order_fault g m es r → Refuses (record { rules = g; plant = m; standing = es }) (Book r) why
-    book_faulty why f = refuses (Book r) why (faulty _ why f)
-
     module _ (fine : None ≡ order_fault g m es r) where
       searched : (o : Option Named) → o ≡ way_for g (taken m) m.channels (order_of r) → book_answer g m es r ≡ when_there o (refused NoWay) (λ w. if_room m (along (order_of r) w))
       searched o f = ap (λ x. unless x (when_there (way_for g (taken m) m.channels (order_of r)) (refused NoWay) (λ w. if_room m (along (order_of r) w)))) (sym fine) ∙ ap (λ x. when_there x (refused NoWay) (λ w. if_room m (along (order_of r) w))) (sym f)
@@ -79,12 +78,10 @@ module _ {C : Type 0} (g : Rules C) (m : Meaning) (es : List Standing) where
             let ok : was_accepted (book_answer g m es r) ≡ true = ap was_accepted a in
             record {
               answer = sym a;
-              plant = sym (cond-true (was_accepted (book_answer g m es r)) (effect g m es (Book r)) m ok ∙ ap (λ o. when_there o m (λ v. hold_all m (along (order_of r) v))) (sym found));
-              standing = pushes r w (checked g m es r (sym fine)) ∙ sym (ap (fed g (taken m) m.channels es (Book r)) ok ∙ ap (λ o. when_there o es (λ v. es ++ (along (order_of r) v ∷ []))) (sym found));
+              state = same_state g _ _ _ _
+                  (sym (cond-true (was_accepted (book_answer g m es r)) (effect g m es (Book r)) m ok ∙ ap (λ o. when_there o m (λ v. hold_all m (along (order_of r) v))) (sym found)))
+                  (pushes r w (checked g m es r (sym fine)) ∙ sym (ap (fed g (taken m) m.channels es (Book r)) ok ∙ ap (λ o. when_there o es (λ v. es ++ (along (order_of r) v ∷ []))) (sym found)));
             }
-
-    pub place_faulty : (a : ℕ) (p : Route) (why : Refusal) → Some why ≡ order_fault g m es r → Refuses (record { rules = g; plant = m; standing = es }) (Place r a p) why
-    place_faulty a p why f = refuses (Place r a p) why (faulty _ why f)
 
     module _ (fine : None ≡ order_fault g m es r) (a : ℕ) (p : Route) where
       shared : (x : Said) → place_answer g m es r a p ≡ unless (order_fault g m es r) x → place_answer g m es r a p ≡ x
@@ -121,6 +118,6 @@ module _ {C : Type 0} (g : Rules C) (m : Meaning) (es : List Standing) where
                 let ok : was_accepted (place_answer g m es r a p) ≡ true = ap was_accepted a' in
                 record {
                   answer = sym a';
-                  plant = sym (cond-true (was_accepted (place_answer g m es r a p)) (effect g m es (Place r a p)) m ok);
-                  standing = pushes r (given a p) (checked g m es r (sym fine)) ∙ sym (ap (fed g (taken m) m.channels es (Place r a p)) ok);
+                  state = same_state g _ _ _ _ (sym (cond-true (was_accepted (place_answer g m es r a p)) (effect g m es (Place r a p)) m ok))
+                      (pushes r (given a p) (checked g m es r (sym fine)) ∙ sym (ap (fed g (taken m) m.channels es (Place r a p)) ok));
                 }

@@ -1,4 +1,4 @@
-pub mod Deeds
+pub mod Steps
 pub mod Law
 pub mod Seen
 pub mod Slots

@@ -2,9 +2,12 @@ ghost use Rattle.std.specs.Prelude.{◌≡◌, ℕ, Bool, true, None};
 ghost use Rattle.std.specs.Option.{option_map};
 ghost use Rattle.orders.specs.Runs.{on_link, each_run, cell_fault, run_fault, first_fault, own_cells};
 ghost use Rattle.orders.specs.Standing.{stood};
-ghost use Rattle.planner.specs.Deeds.{does};
+ghost use Rattle.calendar.specs.Meaning.{Meaning};
+ghost use Rattle.calendar.specs.declared.run.Run.{Run};
+ghost use Rattle.planner.specs.Steps.{Steps};
 
 use calendar::hours::hour_after;
+use calendar::refusal::PlantRefusal;
 use calendar::run::Run;
 use orders::refusal::{Cell, Refusal};
 use orders::row::Row;
@@ -14,10 +17,7 @@ use plant::Plant;
 fn is_own(own: Option<Row>, cell: Cell) -> bool
     ensures { result ≡ own_cells (option_map stood own) cell.link cell.channel cell.hour }
 {
-    match own {
-        Some(row) => row.is_in(cell.link, cell.channel, cell.hour),
-        None => false,
-    }
+    own.is_some_and(|row| row.is_in(cell.link, cell.channel, cell.hour))
 }
 
 // Why the cell is not free: it is closed, or held and not by the order itself.
@@ -27,7 +27,7 @@ fn cell_fault<P: Plant>(plant: &P, own: Option<Row>, cell: Cell) -> Option<Refus
     if plant.closed(cell.link, cell.channel, cell.hour) {
         return Some(Refusal::CellClosed(cell));
     }
-    if plant.held(cell.link, cell.channel, cell.hour) & !is_own(own, cell) {
+    if plant.held(cell.link, cell.channel, cell.hour) && !is_own(own, cell) {
         return Some(Refusal::CellHeld(cell));
     }
     None
@@ -42,7 +42,8 @@ fn is_free<P: Plant>(plant: &P, row: Row, link: u8, channel: u8) -> bool
 }
 
 // The first cell of the order that is not free: by link in path order, then channel, then hour from the first.
-// A held cell of the order `own` counts as free.
+// A held cell of the order `own` counts as free. The three loops keep their names and the one exit, as the project has
+// them.
 pub(crate) fn first_fault<P: Plant>(plant: &P, own: Option<Row>, row: Row) -> Option<Refusal>
     ensures { result ≡ first_fault (P.meaning plant.now) (own_cells (option_map stood own)) (stood row) }
 {
@@ -70,42 +71,33 @@ pub(crate) fn first_fault<P: Plant>(plant: &P, own: Option<Row>, row: Row) -> Op
     found
 }
 
-// What is done with a run.
-#[derive(Clone, Copy)]
-pub(crate) enum Deed {
-    Hold,
-    Release,
-}
-
-// Holds or releases the run. The planner has looked before, so that the plant does not refuse.
-fn do_run<P: Plant>(plant: &mut P, deed: Deed, run: Run)
-    ensures { P.meaning plant.new ≡ does deed (P.meaning plant.old) run }
-{
-    match deed {
-        Deed::Hold => {
-            let _ = plant.hold(run);
-        }
-        Deed::Release => {
-            let _ = plant.release(run);
-        }
-    }
-}
-
-// Holds or releases the order's runs on link i of its path.
-fn do_link<P: Plant>(plant: &mut P, deed: Deed, row: Row, i: u8)
-    ensures { P.meaning plant.new ≡ on_link (does deed) (P.meaning plant.old) (stood row) i row.order.width }
+// Takes the order's runs on link i of its path, channel by channel.
+fn each_on_link<P: Plant, F: Fn(&mut P, Run) -> Result<(), PlantRefusal>>(
+    plant: &mut P,
+    row: Row,
+    i: u8,
+    step: &F,
+)
+    requires { F.IsAlwaysCallable step.now }
+    ensures { (does : Meaning → Run → Meaning) → Steps (F.post step.now) P.meaning does → P.meaning plant.new ≡ on_link does (P.meaning plant.old) (stood row) i row.order.width }
 {
     let link = row.link_at(i);
     for w in 0..row.order.width {
-        do_run(plant, deed, row.run_on(link, row.way.channel + w));
+        let _ = step(plant, row.run_on(link, row.way.channel + w));
     }
 }
 
-// Holds or releases every run of the order.
-pub(crate) fn do_runs<P: Plant>(plant: &mut P, deed: Deed, row: Row)
-    ensures { P.meaning plant.new ≡ each_run (does deed) (P.meaning plant.old) (stood row) }
+// Takes every run of the order: holds it, or releases it, as `step` does. The planner has looked before, so that the
+// plant does not refuse.
+pub(crate) fn each_run<P: Plant, F: Fn(&mut P, Run) -> Result<(), PlantRefusal>>(
+    plant: &mut P,
+    row: Row,
+    step: F,
+)
+    requires { F.IsAlwaysCallable step }
+    ensures { (does : Meaning → Run → Meaning) → Steps (F.post step) P.meaning does → P.meaning plant.new ≡ each_run does (P.meaning plant.old) (stood row) }
 {
     for i in 0..row.way.path.count {
-        do_link(plant, deed, row, i);
+        each_on_link(plant, row, i, &step);
     }
 }

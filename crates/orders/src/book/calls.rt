@@ -22,22 +22,16 @@ impl Book {
             (stands number (all_stood self.now.rows.items) ≡ false)
             (λ i. Found number self.now.rows.items i) }
     {
-        for i in 0..self.rows.len() {
-            if self.rows[i].order.number as u32 == number {
-                return Some(i);
-            }
-        }
-        None
+        self.rows
+            .iter()
+            .position(|row| u32::from(row.order.number) == number)
     }
 
     // Whether an order of this number stands.
     pub fn has(&self, number: u32) -> bool
         ensures { result ≡ stands number (all_stood self.now.rows.items) }
     {
-        match self.find(number) {
-            Some(_) => true,
-            None => false,
-        }
+        self.find(number).is_some()
     }
 
     // Whether no further order can stand.
@@ -51,7 +45,7 @@ impl Book {
     pub fn push(&mut self, row: Row)
         ensures { all_stood self.new.rows.items ≡ pushed (all_stood self.old.rows.items) (stood row) }
     {
-        if self.is_full() | self.has(row.order.number as u32) {
+        if self.is_full() || self.has(u32::from(row.order.number)) {
             return;
         }
         self.rows.push_reserved(row);

@@ -34,15 +34,16 @@ impl Row {
     pub fn has_channel(self, channel: u8) -> bool
         ensures { result ≡ block_has self.way.channel self.order.width channel }
     {
-        (self.way.channel <= channel) & (channel < self.way.channel + self.order.width)
+        (self.way.channel..self.way.channel + self.order.width).contains(&channel)
     }
 
     // Whether one of the order's runs covers the cell.
     pub fn is_in(self, link: u8, channel: u8, hour: u8) -> bool
         ensures { result ≡ in_cell (stood self) link channel hour }
     {
-        (self.crosses(link) & self.has_channel(channel))
-            & covers_hour(self.order.first, self.order.hours, hour)
+        self.crosses(link)
+            && self.has_channel(channel)
+            && covers_hour(self.order.first, self.order.hours, hour)
     }
 
     // The order's run on that channel of that link.
@@ -61,6 +62,6 @@ impl Row {
     pub fn runs_needed(self) -> u32
         ensures { result ≡ runs_needed (stood self) }
     {
-        self.way.path.count as u32 * self.order.width as u32
+        u32::from(self.way.path.count) * u32::from(self.order.width)
     }
 }

@@ -4,7 +4,7 @@ ghost use Rattle.orders.specs.declared.call.Call.TheVariants.{Cancel as CancelOf
 ghost use Rattle.planner.specs.Seen.{seen};
 
 use super::Planner;
-use crate::runs::{Deed, do_runs, first_fault};
+use crate::runs::{each_run, first_fault};
 use network::cost::Cost;
 use orders::call::{Accepted, Answer};
 use orders::refusal::Refusal;
@@ -13,41 +13,34 @@ use plant::Plant;
 impl<P: Plant, C: Cost> Planner<P, C> {
     // Gives back every run of the order of this number, and closes up the book.
     pub fn cancel(&mut self, number: u32) -> Answer
-        ensures answer { said result ≡ answers_in (seen P.Plant.meaning C.Cost.kind self.old) (CancelOf number) }
-        ensures rules { (seen P.Plant.meaning C.Cost.kind self.new).rules ≡ (seen P.Plant.meaning C.Cost.kind self.old).rules }
-        ensures plant { P.Plant.meaning self.new.plant ≡ (after (seen P.Plant.meaning C.Cost.kind self.old) (CancelOf number)).plant }
-        ensures standing { (seen P.Plant.meaning C.Cost.kind self.new).standing ≡ (after (seen P.Plant.meaning C.Cost.kind self.old) (CancelOf number)).standing }
+        ensures answer { said result ≡ answers_in (seen P.meaning C.kind self.old) (CancelOf number) }
+        ensures state { seen P.meaning C.kind self.new ≡ after (seen P.meaning C.kind self.old) (CancelOf number) }
     {
-        let Some(i) = self.book.find(number) else {
-            return Err(Refusal::NotStanding);
-        };
+        let i = self.book.find(number).ok_or(Refusal::NotStanding)?;
         let row = self.book.rows[i];
-        do_runs(&mut self.plant, Deed::Release, row);
+        each_run(&mut self.plant, row, P::release);
         self.book.remove(i);
         Ok(Accepted::Cancelled(row.order.number))
     }
 
     // Gives the order of this number a new first hour with the same way. Its own old cells count as free.
     pub fn shift(&mut self, number: u32, hour: u32) -> Answer
-        ensures answer { said result ≡ answers_in (seen P.Plant.meaning C.Cost.kind self.old) (ShiftOf number hour) }
-        ensures rules { (seen P.Plant.meaning C.Cost.kind self.new).rules ≡ (seen P.Plant.meaning C.Cost.kind self.old).rules }
-        ensures plant { P.Plant.meaning self.new.plant ≡ (after (seen P.Plant.meaning C.Cost.kind self.old) (ShiftOf number hour)).plant }
-        ensures standing { (seen P.Plant.meaning C.Cost.kind self.new).standing ≡ (after (seen P.Plant.meaning C.Cost.kind self.old) (ShiftOf number hour)).standing }
+        ensures answer { said result ≡ answers_in (seen P.meaning C.kind self.old) (ShiftOf number hour) }
+        ensures state { seen P.meaning C.kind self.new ≡ after (seen P.meaning C.kind self.old) (ShiftOf number hour) }
     {
-        let Some(i) = self.book.find(number) else {
-            return Err(Refusal::NotStanding);
-        };
+        let i = self.book.find(number).ok_or(Refusal::NotStanding)?;
         if hour >= 168 {
             return Err(Refusal::BadHours);
         }
         let old = self.book.rows[i];
         let mut new = old;
         new.order.first = hour as u8;
+        // A fault is what is looked for, so it is no error until here: no method of Option says this more plainly.
         if let Some(why) = first_fault(&self.plant, Some(old), new) {
             return Err(why);
         }
-        do_runs(&mut self.plant, Deed::Release, old);
-        do_runs(&mut self.plant, Deed::Hold, new);
+        each_run(&mut self.plant, old, P::release);
+        each_run(&mut self.plant, new, P::hold);
         self.book.set_hour(i, hour as u8);
         Ok(Accepted::Stands(new))
     }

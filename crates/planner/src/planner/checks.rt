@@ -1,8 +1,9 @@
 ghost use Rattle.std.specs.Prelude.{◌≡◌, if◌then◌else◌, Some, None, MatchResult};
 ghost use Rattle.network.specs.Limits.{two_places};
-ghost use Rattle.orders.specs.Calls.{number_fits, width_fits, order_of, order_fault};
+ghost use Rattle.orders.specs.Calls.{number_fits, width_fits, order_of};
 ghost use Rattle.ways.specs.Hours.{hours_fit, block_fits};
 ghost use Rattle.planner.specs.Seen.{seen};
+ghost use Rattle.planner.specs.Taking.{fault_in};
 
 use super::Planner;
 use network::cost::Cost;
@@ -15,68 +16,58 @@ use ways::order::Order;
 fn number_fits(number: u32) -> bool
     ensures { result ≡ number_fits number }
 {
-    (1 <= number) & (number <= 9999)
+    (1..=9999).contains(&number)
 }
 
 // Whether an order may be so wide.
 fn width_fits(width: u32) -> bool
     ensures { result ≡ width_fits width }
 {
-    (1 <= width) & (width <= 4)
+    (1..=4).contains(&width)
 }
 
 // Whether the hours asked for are hours of the week.
 fn hours_fit(request: Request) -> bool
     ensures { result ≡ hours_fit (order_of request) }
 {
-    (request.first < 168) & ((1 <= request.hours) & (request.hours <= 168))
+    request.first < 168 && (1..=168).contains(&request.hours)
 }
 
 // Whether v and w are two different places out of so many.
 fn two_places(places: u8, v: u32, w: u32) -> bool
     ensures { result ≡ two_places places v w }
 {
-    let last = places as u32;
-    (((1 <= v) & (v <= last)) & ((1 <= w) & (w <= last))) & !(v == w)
+    let all = 1..=u32::from(places);
+    all.contains(&v) && all.contains(&w) && v != w
 }
 
 impl<P: Plant, C: Cost> Planner<P, C> {
-    // The first check of an order that fails, of those that book and place share.
-    pub(super) fn order_fault(&self, request: Request) -> Option<Refusal>
-        ensures { result ≡ order_fault (seen P.Plant.meaning C.Cost.kind self.now).rules (P.Plant.meaning self.now.plant) (seen P.Plant.meaning C.Cost.kind self.now).standing request }
-    {
-        if self.plant.size().links < self.net.link_count() {
-            return Some(Refusal::FewerLinks);
-        }
-        if !number_fits(request.number) {
-            return Some(Refusal::BadNumber);
-        }
-        if !two_places(self.net.places(), request.from, request.to) {
-            return Some(Refusal::BadEnds);
-        }
-        if !width_fits(request.width) {
-            return Some(Refusal::BadWidth);
-        }
-        if !hours_fit(request) {
-            return Some(Refusal::BadHours);
-        }
-        if self.book.has(request.number) {
-            return Some(Refusal::StandsAlready);
-        }
-        if self.book.is_full() {
-            return Some(Refusal::BookFull);
-        }
-        None
-    }
-
-    // The order that is asked for, if no check fails that book and place share.
+    // The order that is asked for, if no check fails that book and place share; else the first that fails.
     pub(super) fn checked_order(&self, request: Request) -> Result<Order, Refusal>
         ensures { MatchResult result
-            (λ o. (None ≡ order_fault (seen P.Plant.meaning C.Cost.kind self.now).rules (P.Plant.meaning self.now.plant) (seen P.Plant.meaning C.Cost.kind self.now).standing request) × (o ≡ order_of request))
-            (λ why. Some why ≡ order_fault (seen P.Plant.meaning C.Cost.kind self.now).rules (P.Plant.meaning self.now.plant) (seen P.Plant.meaning C.Cost.kind self.now).standing request) }
+            (λ o. (None ≡ fault_in (seen P.meaning C.kind self.now) request) × (o ≡ order_of request))
+            (λ why. Some why ≡ fault_in (seen P.meaning C.kind self.now) request) }
     {
-        if let Some(why) = self.order_fault(request) {
-            return Err(why);
+        if self.plant.size().links < self.net.link_count() {
+            return Err(Refusal::FewerLinks);
+        }
+        if !number_fits(request.number) {
+            return Err(Refusal::BadNumber);
+        }
+        if !two_places(self.net.places(), request.from, request.to) {
+            return Err(Refusal::BadEnds);
+        }
+        if !width_fits(request.width) {
+            return Err(Refusal::BadWidth);
+        }
+        if !hours_fit(request) {
+            return Err(Refusal::BadHours);
+        }
+        if self.book.has(request.number) {
+            return Err(Refusal::StandsAlready);
+        }
+        if self.book.is_full() {
+            return Err(Refusal::BookFull);
         }
         Ok(Order {
             number: request.number as u16,
@@ -90,12 +81,14 @@ impl<P: Plant, C: Cost> Planner<P, C> {
 
     // The first channel, if the block from it up lies within the plant's channels.
     pub(super) fn checked_block(&self, channel: u32, width: u8) -> Option<u8>
-        ensures { result ≡ (if block_fits (P.Plant.meaning self.now.plant).channels channel width then Some channel else None) }
+        ensures { result ≡ (if block_fits (P.meaning self.now.plant).channels channel width then Some channel else None) }
     {
-        let channels = self.plant.size().channels as u32;
-        if channel < 1 || channels + 1 < width as u32 || channels + 1 - (width as u32) < channel {
-            return None;
+        let channels = u32::from(self.plant.size().channels);
+        let end = channel.checked_add(u32::from(width))?;
+        if 1 <= channel && end <= channels + 1 {
+            Some(channel as u8)
+        } else {
+            None
         }
-        Some(channel as u8)
     }
 }

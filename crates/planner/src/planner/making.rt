@@ -23,7 +23,7 @@ impl<C: Copy> Workspace<C> {
 impl<P: Plant, C: Cost> Planner<P, C> {
     // A planner on this network and this plant, whatever is held there, with an unused book.
     pub fn new(net: Network, plant: P, fit: Fit, workspace: Workspace<C>) -> Planner<P, C>
-        ensures { seen P.Plant.meaning C.Cost.kind result ≡ record { rules = record { kind = C.Cost.kind; net = net; fit = fit }; plant = P.Plant.meaning plant; standing = [] } }
+        ensures { seen P.meaning C.kind result ≡ record { rules = record { kind = C.kind; net = net; fit = fit }; plant = P.meaning plant; standing = [] } }
     {
         Planner {
             net,
@@ -43,7 +43,8 @@ impl<P: Plant, C: Cost> Planner<P, C> {
 
     // Gives back the network and the plant.
     pub fn into_parts(self) -> (Network, P)
-        ensures { (result.0 ≡ self.net) × (result.1 ≡ self.plant) }
+        ensures net { result.0 ≡ self.net }
+        ensures plant { result.1 ≡ self.plant }
     {
         (self.net, self.plant)
     }

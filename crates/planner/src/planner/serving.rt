@@ -14,10 +14,8 @@ use plant::Plant;
 impl<P: Plant, C: Cost> Planner<P, C> {
     // Makes one call.
     pub fn call(&mut self, call: Call) -> Answer
-        ensures answer { said result ≡ answers_in (seen P.Plant.meaning C.Cost.kind self.old) call }
-        ensures rules { (seen P.Plant.meaning C.Cost.kind self.new).rules ≡ (seen P.Plant.meaning C.Cost.kind self.old).rules }
-        ensures plant { P.Plant.meaning self.new.plant ≡ (after (seen P.Plant.meaning C.Cost.kind self.old) call).plant }
-        ensures standing { (seen P.Plant.meaning C.Cost.kind self.new).standing ≡ (after (seen P.Plant.meaning C.Cost.kind self.old) call).standing }
+        ensures answer { said result ≡ answers_in (seen P.meaning C.kind self.old) call }
+        ensures state { seen P.meaning C.kind self.new ≡ after (seen P.meaning C.kind self.old) call }
     {
         match call {
             Call::Book(request) => self.book(request),
@@ -29,7 +27,7 @@ impl<P: Plant, C: Cost> Planner<P, C> {
 
     // What the orders that stand come to.
     pub fn report(&self) -> Report
-        ensures { result ≡ reported self.now.net (seen P.Plant.meaning C.Cost.kind self.now).standing }
+        ensures { result ≡ reported self.now.net (seen P.meaning C.kind self.now).standing }
     {
         report(&self.net, &self.book)
     }
@@ -37,11 +35,11 @@ impl<P: Plant, C: Cost> Planner<P, C> {
     // Makes each call on what the last one left, puts the answer beside it, and reports on what stands then. This is
     // the call that the programs make, and it bears the law over every list of calls.
     pub fn serve(&mut self, slots: &mut [Slot]) -> Report
-        ensures { Served (seen P.Plant.meaning C.Cost.kind self.old) slots.old (seen P.Plant.meaning C.Cost.kind self.new) slots.new result }
+        ensures { Served (seen P.meaning C.kind self.old) slots.old (seen P.meaning C.kind self.new) slots.new result }
     {
-        for i in 0..slots.len() {
-            let answer = self.call(slots[i].call);
-            slots[i].answer = Some(answer);
+        for slot in slots.iter_mut() {
+            let answer = self.call(slot.call);
+            slot.answer = Some(answer);
         }
         self.report()
     }

@@ -1,15 +1,13 @@
 ghost use Rattle.std.specs.Prelude.{◌≡◌, MatchResult};
 ghost use Rattle.orders.specs.Calls.{said, answers_in, after};
-ghost use Rattle.orders.specs.Book.{pushed};
-ghost use Rattle.orders.specs.Runs.{hold_all};
 ghost use Rattle.orders.specs.Standing.{stood};
 ghost use Rattle.orders.specs.declared.call.Accepted.TheVariants.{Stands};
 ghost use Rattle.orders.specs.declared.call.Call.TheVariants.{Book as BookOf, Place as PlaceOf};
 ghost use Rattle.planner.specs.Seen.{seen};
-ghost use Rattle.planner.specs.Taking.{Takes, Refuses};
+ghost use Rattle.planner.specs.Taking.{Takes, Refuses, joined};
 
 use super::Planner;
-use crate::runs::{Deed, do_runs, first_fault};
+use crate::runs::{each_run, first_fault};
 use network::cost::Cost;
 use network::usable::Usable;
 use orders::call::{Accepted, Answer};
@@ -25,22 +23,21 @@ impl<P: Plant, C: Cost> Planner<P, C> {
     // The order with the way that the search finds for it, if book has nothing to refuse.
     fn found_row(&mut self, request: Request) -> Result<Row, Refusal>
         ensures row { MatchResult result
-            (λ row. Takes (seen P.Plant.meaning C.Cost.kind self.old) (BookOf request) (stood row))
-            (λ why. Refuses (seen P.Plant.meaning C.Cost.kind self.old) (BookOf request) why) }
-        ensures same { seen P.Plant.meaning C.Cost.kind self.new ≡ seen P.Plant.meaning C.Cost.kind self.old }
+            (λ row. Takes (seen P.meaning C.kind self.old) (BookOf request) (stood row))
+            (λ why. Refuses (seen P.meaning C.kind self.old) (BookOf request) why) }
+        ensures same { seen P.meaning C.kind self.new ≡ seen P.meaning C.kind self.old }
     {
         let order = self.checked_order(request)?;
         let all = Usable::all();
-        let Some(way) = find_way(
+        let way = find_way(
             &self.plant,
             &self.net,
             &all,
             &mut self.space,
             order,
             self.fit,
-        ) else {
-            return Err(Refusal::NoWay);
-        };
+        )
+        .ok_or(Refusal::NoWay)?;
         let row = Row { order, way };
         if self.plant.room() < row.runs_needed() {
             return Err(Refusal::NoRoom);
@@ -51,23 +48,16 @@ impl<P: Plant, C: Cost> Planner<P, C> {
     // The order with the way that is given, if place has nothing to refuse.
     fn given_row(&self, request: Request, channel: u32, route: Route) -> Result<Row, Refusal>
         ensures { MatchResult result
-            (λ row. Takes (seen P.Plant.meaning C.Cost.kind self.now) (PlaceOf request channel route) (stood row))
-            (λ why. Refuses (seen P.Plant.meaning C.Cost.kind self.now) (PlaceOf request channel route) why) }
+            (λ row. Takes (seen P.meaning C.kind self.now) (PlaceOf request channel route) (stood row))
+            (λ why. Refuses (seen P.meaning C.kind self.now) (PlaceOf request channel route) why) }
     {
         let order = self.checked_order(request)?;
-        let Some(path) = named_path(&self.net, order.from, order.to, route) else {
-            return Err(Refusal::NotAPath);
-        };
-        let Some(block) = self.checked_block(channel, order.width) else {
-            return Err(Refusal::BadBlock);
-        };
-        let row = Row {
-            order,
-            way: Way {
-                channel: block,
-                path,
-            },
-        };
+        let path = named_path(&self.net, order.from, order.to, route).ok_or(Refusal::NotAPath)?;
+        let channel = self
+            .checked_block(channel, order.width)
+            .ok_or(Refusal::BadBlock)?;
+        let way = Way { channel, path };
+        let row = Row { order, way };
         if let Some(why) = first_fault(&self.plant, None, row) {
             return Err(why);
         }
@@ -80,21 +70,17 @@ impl<P: Plant, C: Cost> Planner<P, C> {
     // Puts the order into the plant, and at the end of the book.
     fn take(&mut self, row: Row) -> Accepted
         ensures answer { result ≡ Stands row }
-        ensures rules { (seen P.Plant.meaning C.Cost.kind self.new).rules ≡ (seen P.Plant.meaning C.Cost.kind self.old).rules }
-        ensures plant { P.Plant.meaning self.new.plant ≡ hold_all (P.Plant.meaning self.old.plant) (stood row) }
-        ensures standing { (seen P.Plant.meaning C.Cost.kind self.new).standing ≡ pushed (seen P.Plant.meaning C.Cost.kind self.old).standing (stood row) }
+        ensures state { seen P.meaning C.kind self.new ≡ joined (seen P.meaning C.kind self.old) (stood row) }
     {
-        do_runs(&mut self.plant, Deed::Hold, row);
+        each_run(&mut self.plant, row, P::hold);
         self.book.push(row);
         Accepted::Stands(row)
     }
 
     // Finds the order a way, and takes it.
     pub fn book(&mut self, request: Request) -> Answer
-        ensures answer { said result ≡ answers_in (seen P.Plant.meaning C.Cost.kind self.old) (BookOf request) }
-        ensures rules { (seen P.Plant.meaning C.Cost.kind self.new).rules ≡ (seen P.Plant.meaning C.Cost.kind self.old).rules }
-        ensures plant { P.Plant.meaning self.new.plant ≡ (after (seen P.Plant.meaning C.Cost.kind self.old) (BookOf request)).plant }
-        ensures standing { (seen P.Plant.meaning C.Cost.kind self.new).standing ≡ (after (seen P.Plant.meaning C.Cost.kind self.old) (BookOf request)).standing }
+        ensures answer { said result ≡ answers_in (seen P.meaning C.kind self.old) (BookOf request) }
+        ensures state { seen P.meaning C.kind self.new ≡ after (seen P.meaning C.kind self.old) (BookOf request) }
     {
         let row = self.found_row(request)?;
         Ok(self.take(row))
@@ -102,10 +88,8 @@ impl<P: Plant, C: Cost> Planner<P, C> {
 
     // Takes the way that is given: a first channel and a path.
     pub fn place(&mut self, request: Request, channel: u32, route: Route) -> Answer
-        ensures answer { said result ≡ answers_in (seen P.Plant.meaning C.Cost.kind self.old) (PlaceOf request channel route) }
-        ensures rules { (seen P.Plant.meaning C.Cost.kind self.new).rules ≡ (seen P.Plant.meaning C.Cost.kind self.old).rules }
-        ensures plant { P.Plant.meaning self.new.plant ≡ (after (seen P.Plant.meaning C.Cost.kind self.old) (PlaceOf request channel route)).plant }
-        ensures standing { (seen P.Plant.meaning C.Cost.kind self.new).standing ≡ (after (seen P.Plant.meaning C.Cost.kind self.old) (PlaceOf request channel route)).standing }
+        ensures answer { said result ≡ answers_in (seen P.meaning C.kind self.old) (PlaceOf request channel route) }
+        ensures state { seen P.meaning C.kind self.new ≡ after (seen P.meaning C.kind self.old) (PlaceOf request channel route) }
     {
         let row = self.given_row(request, channel, route)?;
         Ok(self.take(row))
