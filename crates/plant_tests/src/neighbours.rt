@@ -1,4 +1,5 @@
 use crate::bottoms::{map, timetable};
+use crate::calls::run;
 use calendar::refusal::answer_number;
 use calendar::run::Run;
 use plant::Plant;
@@ -6,26 +7,9 @@ use std::process::Abort;
 use std::test::Fail;
 
 // Three runs that together fill a week, each beginning where another ends, one of them around the turn.
-const RUNS: [Run; 3] = [
-    Run {
-        link: 1,
-        channel: 1,
-        first: 160,
-        hours: 20,
-    },
-    Run {
-        link: 1,
-        channel: 1,
-        first: 12,
-        hours: 1,
-    },
-    Run {
-        link: 1,
-        channel: 1,
-        first: 13,
-        hours: 147,
-    },
-];
+fn neighbours() -> [Run; 3] {
+    [run(1, 1, 160, 20), run(1, 1, 12, 1), run(1, 1, 13, 147)]
+}
 
 const ORDERS: [[usize; 3]; 6] = [
     [0, 1, 2],
@@ -41,13 +25,14 @@ fn released_in_order<P: Plant>(
     plant: &mut P,
     order: [usize; 3],
 ) -> Result<(), Fail> {
-    for r in RUNS.iter() {
+    let runs = neighbours();
+    for r in runs.iter() {
         assert_eq!(rt; answer_number(plant.hold(*r)), 0);
     }
     assert_eq!(rt; plant.held_count(1), 168);
     let mut held: u32 = 168;
     for i in order.iter() {
-        let r = RUNS.get(*i).copied().ok_or("no such run")?;
+        let r = runs.get(*i).copied().ok_or("no such run")?;
         assert_eq!(rt; answer_number(plant.release(r)), 0);
         assert_eq!(rt; answer_number(plant.release(r)), 25);
         held = held.saturating_sub(r.hours as u32);
@@ -72,27 +57,14 @@ fn neighbours_are_released_in_each_order(rt: HostRuntime) -> Result<(), Fail> {
 }
 
 fn week(first: u8) -> Run {
-    Run {
-        link: 1,
-        channel: 1,
-        first,
-        hours: 168,
-    }
+    run(1, 1, first, 168)
 }
 
 fn whole_week<P: Plant + Drop>(rt: &impl Abort, plant: P) {
     let mut plant = plant;
     assert_eq!(rt; answer_number(plant.hold(week(5))), 0);
     assert_eq!(rt; answer_number(plant.release(week(6))), 25);
-    assert_eq!(rt;
-        answer_number(plant.release(Run {
-            link: 1,
-            channel: 1,
-            first: 5,
-            hours: 167,
-        })),
-        25
-    );
+    assert_eq!(rt; answer_number(plant.release(run(1, 1, 5, 167))), 25);
     assert_eq!(rt; answer_number(plant.hold(week(6))), 23);
     assert_eq!(rt; answer_number(plant.release(week(5))), 0);
     assert_eq!(rt; answer_number(plant.hold(week(6))), 0);
