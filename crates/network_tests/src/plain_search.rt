@@ -1,3 +1,5 @@
+ghost use Rattle.std.specs.Prelude.{◌<◌};
+
 use crate::list_network::{ListNetwork, ListedLink};
 use network::cost::Cost;
 use network::loss::Loss;
@@ -68,13 +70,6 @@ impl PricedList {
     }
 }
 
-fn lesser(x: Option<PricedList>, y: Option<PricedList>) -> Option<PricedList> {
-    match (x, y) {
-        (Some(a), Some(b)) => Some(a.min(b)),
-        _ => x.or(y),
-    }
-}
-
 // A walk over the list's links that arrives at v, after the places touched before.
 fn arrived(list: PricedList, before: [bool; 33], v: u8) -> Walk {
     let mut touched = before;
@@ -119,6 +114,7 @@ impl Search<'_> {
 
     // The chosen one of all paths that begin with the walk and have at most `left` links more. A path is at an end where
     // it arrives, since it would touch that place twice otherwise.
+    #[cycle(best_from)]
     fn best_from<C: PlainCost>(&self, walk: Walk, left: u8) -> Option<PricedList> {
         if walk.list.count > 0 && walk.at == self.to {
             return Some(walk.list);
@@ -126,13 +122,14 @@ impl Search<'_> {
         if left == 0 {
             return None;
         }
-        let mut best = None;
-        for number in 1..41u8 {
-            if let Some(further) = self.further::<C>(walk, number) {
-                best = lesser(best, self.best_from::<C>(further, left - 1));
-            }
-        }
-        best
+        (1..41u8)
+            .filter_map(|number| self.further::<C>(walk, number))
+            .filter_map(
+                |further|
+                    requires { 0 < left }
+                { self.best_from::<C>(further, left - 1) },
+            )
+            .min()
     }
 }
 
