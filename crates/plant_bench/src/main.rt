@@ -7,7 +7,7 @@ mod subject;
 use anyhow::anyhow;
 use bitmap::map::Map;
 use calendar::run::Run;
-use hour_table::HourTable;
+use hour_table::{Cell, HourTable};
 use plant::timetable::Timetable;
 use rounds::all_rounds;
 use std::alloc::Global;
@@ -16,7 +16,7 @@ use std::time::Instant;
 use subject::Subject;
 
 fn plain_table(heap: Global) -> anyhow::Result<HourTable> {
-    let cells: Vec<u8> = vec![in heap; 0; 107_520]?;
+    let cells: Vec<Cell> = vec![in heap; Cell::Free; 107_520]?;
     Ok(HourTable {
         cells,
         channels: 16,
