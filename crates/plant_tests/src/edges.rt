@@ -26,6 +26,7 @@ fn out_of_range<P: Plant>(rt: &impl Abort, plant: &mut P, channels: u8) {
     }
 }
 
+// Call by call and no table, since holds, releases and questions mix, and so that a failure names its line.
 // Held, held already, released, not there; at the last hour and around the turn. Channel 3 of link 3 is open in
 // every pile.
 fn held_and_gone<P: Plant>(rt: &impl Abort, plant: &mut P) {

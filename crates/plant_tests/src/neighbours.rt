@@ -11,49 +11,45 @@ fn neighbours() -> [Run; 3] {
     [run(1, 1, 160, 20), run(1, 1, 12, 1), run(1, 1, 13, 147)]
 }
 
-const ORDERS: [[usize; 3]; 6] = [
-    [0, 1, 2],
-    [0, 2, 1],
-    [1, 0, 2],
-    [1, 2, 0],
-    [2, 0, 1],
-    [2, 1, 0],
-];
+fn orders() -> [[Run; 3]; 6] {
+    let [a, b, c] = neighbours();
+    [
+        [a, b, c],
+        [a, c, b],
+        [b, a, c],
+        [b, c, a],
+        [c, a, b],
+        [c, b, a],
+    ]
+}
 
-fn released_in_order<P: Plant>(
-    rt: &impl Abort,
-    plant: &mut P,
-    order: [usize; 3],
-) -> Result<(), Fail> {
-    let runs = neighbours();
-    for r in runs.iter() {
+fn released_in_order<P: Plant>(rt: &impl Abort, plant: &mut P, order: &[Run; 3]) {
+    for r in neighbours().iter() {
         assert_eq!(rt; answer_number(plant.hold(*r)), 0);
     }
     assert_eq!(rt; plant.held_count(1), 168);
     let mut held: u32 = 168;
-    for i in order.iter() {
-        let r = runs.get(*i).copied().ok_or("no such run")?;
-        assert_eq!(rt; answer_number(plant.release(r)), 0);
-        assert_eq!(rt; answer_number(plant.release(r)), 25);
+    for r in order.iter() {
+        assert_eq!(rt; answer_number(plant.release(*r)), 0);
+        assert_eq!(rt; answer_number(plant.release(*r)), 25);
         held = held.saturating_sub(r.hours as u32);
         assert_eq!(rt; plant.held_count(1), held);
     }
     assert_eq!(rt; held, 0);
-    Ok(())
 }
 
-fn released<P: Plant + Drop>(rt: &impl Abort, plant: P) -> Result<(), Fail> {
+fn released<P: Plant + Drop>(rt: &impl Abort, plant: P) {
     let mut plant = plant;
-    for order in ORDERS.iter() {
-        released_in_order(rt, &mut plant, *order)?;
+    for order in orders().iter() {
+        released_in_order(rt, &mut plant, order);
     }
-    Ok(())
 }
 
 #[test]
 fn neighbours_are_released_in_each_order(rt: HostRuntime) -> Result<(), Fail> {
-    released(&rt, timetable(rt.alloc(), 3, 1, 1)?)?;
-    released(&rt, map(rt.alloc(), 1, 1)?)
+    released(&rt, timetable(rt.alloc(), 3, 1, 1)?);
+    released(&rt, map(rt.alloc(), 1, 1)?);
+    Ok(())
 }
 
 fn week(first: u8) -> Run {
