@@ -1,6 +1,7 @@
 use crate::list_network::{ListNetwork, ListedLink};
-use crate::plain_search::CostKind;
+use crate::plain_search::PlainCost;
 use crate::proved::{Answer, Searched, plain_answer};
+use network::cost::Cost;
 use network::loss::Loss;
 use network::metres::Metres;
 use std::alloc::{AllocError, Global};
@@ -37,32 +38,21 @@ fn listed(
 
 // The answer of these numbers; of no number, that there is no path.
 fn wanted(numbers: &[u8]) -> Answer {
-    if numbers.is_empty() {
-        return None;
-    }
+    let count = u8::try_from(numbers.len()).ok().filter(|n| *n > 0)?;
     let mut links = [0u8; 8];
-    let mut count: u8 = 0;
-    for number in numbers {
-        if count < 8 {
-            links[count as usize] = *number;
-            count = count.saturating_add(1);
-        }
+    for (link, number) in links.iter_mut().zip(numbers) {
+        *link = *number;
     }
     Some((count, links))
 }
 
-fn by_length(heap: Global, net: &ListNetwork, from: u8, to: u8) -> Result<Answer, Fail> {
-    let mut searched: Searched<Metres> = Searched::new(heap, net)?;
-    Ok(searched.answer(from, to))
-}
-
-fn by_loss(heap: Global, net: &ListNetwork, from: u8, to: u8) -> Result<Answer, Fail> {
-    let mut searched: Searched<Loss> = Searched::new(heap, net)?;
+fn found<C: Cost>(heap: Global, net: &ListNetwork, from: u8, to: u8) -> Result<Answer, Fail> {
+    let mut searched: Searched<C> = Searched::new(heap, net)?;
     Ok(searched.answer(from, to))
 }
 
 // Both searches have to find these links, so that an example worked out wrongly shows.
-fn shortest(
+fn chosen<C: PlainCost>(
     rt: &impl Abort,
     heap: Global,
     net: &ListNetwork,
@@ -71,28 +61,11 @@ fn shortest(
     links: &[u8],
 ) -> Result<(), Fail> {
     assert_eq!(rt;
-        plain_answer(net, CostKind::Length, from, to),
+        plain_answer::<C>(net, from, to),
         wanted(links),
         "all paths tried"
     );
-    assert_eq!(rt; by_length(heap, net, from, to)?, wanted(links));
-    Ok(())
-}
-
-fn mildest(
-    rt: &impl Abort,
-    heap: Global,
-    net: &ListNetwork,
-    from: u8,
-    to: u8,
-    links: &[u8],
-) -> Result<(), Fail> {
-    assert_eq!(rt;
-        plain_answer(net, CostKind::Worst, from, to),
-        wanted(links),
-        "all paths tried"
-    );
-    assert_eq!(rt; by_loss(heap, net, from, to)?, wanted(links));
+    assert_eq!(rt; found::<C>(heap, net, from, to)?, wanted(links));
     Ok(())
 }
 
@@ -110,14 +83,14 @@ const SHORTCUTS: [Figures; 6] = [
 fn what_the_hop_limit_bars_does_not_compete(rt: HostRuntime) -> Result<(), Fail> {
     let heap = rt.alloc();
     let four = listed(heap, 5, 4, &SHORTCUTS)?;
-    shortest(&rt, heap, &four, 1, 5, &[1, 2, 3, 4])?;
+    chosen::<Metres>(&rt, heap, &four, 1, 5, &[1, 2, 3, 4])?;
     let three = listed(heap, 5, 3, &SHORTCUTS)?;
-    shortest(&rt, heap, &three, 1, 5, &[1, 2, 5])?;
+    chosen::<Metres>(&rt, heap, &three, 1, 5, &[1, 2, 5])?;
     let two = listed(heap, 5, 2, &SHORTCUTS)?;
-    shortest(&rt, heap, &two, 1, 5, &[6])?;
-    shortest(&rt, heap, &two, 2, 5, &[2, 5])?;
+    chosen::<Metres>(&rt, heap, &two, 1, 5, &[6])?;
+    chosen::<Metres>(&rt, heap, &two, 2, 5, &[2, 5])?;
     let one = listed(heap, 5, 1, &SHORTCUTS)?;
-    shortest(&rt, heap, &one, 2, 5, &[])
+    chosen::<Metres>(&rt, heap, &one, 2, 5, &[])
 }
 
 // By either cost links 1 and 2 together tie with link 3, and come before it in dictionary order.
@@ -127,9 +100,9 @@ const TIED: [Figures; 3] = [(1, 2, 2000, 10), (2, 3, 3000, 20), (1, 3, 5000, 20)
 fn fewest_links_on_a_tie_in_cost(rt: HostRuntime) -> Result<(), Fail> {
     let heap = rt.alloc();
     let net = listed(heap, 3, 8, &TIED)?;
-    shortest(&rt, heap, &net, 1, 3, &[3])?;
-    shortest(&rt, heap, &net, 3, 1, &[3])?;
-    mildest(&rt, heap, &net, 1, 3, &[3])
+    chosen::<Metres>(&rt, heap, &net, 1, 3, &[3])?;
+    chosen::<Metres>(&rt, heap, &net, 3, 1, &[3])?;
+    chosen::<Loss>(&rt, heap, &net, 1, 3, &[3])
 }
 
 // Both ways around are alike in cost: from 1 to 4 they are 2, 3 and 4, 1, and from 4 to 1 they are 1, 4 and 3, 2.
@@ -144,10 +117,10 @@ const SQUARE: [Figures; 4] = [
 fn dictionary_order_on_a_tie_in_cost_and_count(rt: HostRuntime) -> Result<(), Fail> {
     let heap = rt.alloc();
     let net = listed(heap, 4, 8, &SQUARE)?;
-    shortest(&rt, heap, &net, 1, 4, &[2, 3])?;
-    shortest(&rt, heap, &net, 4, 1, &[1, 4])?;
-    mildest(&rt, heap, &net, 1, 4, &[2, 3])?;
-    mildest(&rt, heap, &net, 4, 1, &[1, 4])
+    chosen::<Metres>(&rt, heap, &net, 1, 4, &[2, 3])?;
+    chosen::<Metres>(&rt, heap, &net, 4, 1, &[1, 4])?;
+    chosen::<Loss>(&rt, heap, &net, 1, 4, &[2, 3])?;
+    chosen::<Loss>(&rt, heap, &net, 4, 1, &[1, 4])
 }
 
 // Between 1 and 2 link 2 has the lesser loss, but on the way to 3 the loss of link 3 hides it, and the numbers decide.
@@ -162,11 +135,11 @@ const HIDDEN: [Figures; 4] = [
 fn the_greater_loss_hides_the_lesser(rt: HostRuntime) -> Result<(), Fail> {
     let heap = rt.alloc();
     let net = listed(heap, 3, 8, &HIDDEN)?;
-    mildest(&rt, heap, &net, 1, 2, &[2])?;
-    mildest(&rt, heap, &net, 1, 3, &[1, 3])?;
-    mildest(&rt, heap, &net, 3, 1, &[3, 1])?;
-    shortest(&rt, heap, &net, 1, 3, &[4])?;
-    shortest(&rt, heap, &net, 1, 2, &[4, 3])
+    chosen::<Loss>(&rt, heap, &net, 1, 2, &[2])?;
+    chosen::<Loss>(&rt, heap, &net, 1, 3, &[1, 3])?;
+    chosen::<Loss>(&rt, heap, &net, 3, 1, &[3, 1])?;
+    chosen::<Metres>(&rt, heap, &net, 1, 3, &[4])?;
+    chosen::<Metres>(&rt, heap, &net, 1, 2, &[4, 3])
 }
 
 const PARALLEL: [Figures; 3] = [(1, 2, 5, 5), (1, 2, 6, 6), (2, 3, 5, 5)];
@@ -175,12 +148,12 @@ const PARALLEL: [Figures; 3] = [(1, 2, 5, 5), (1, 2, 6, 6), (2, 3, 5, 5)];
 fn links_that_may_not_be_used_are_passed_over(rt: HostRuntime) -> Result<(), Fail> {
     let heap = rt.alloc();
     let mut net = listed(heap, 3, 8, &PARALLEL)?;
-    shortest(&rt, heap, &net, 1, 3, &[1, 3])?;
+    chosen::<Metres>(&rt, heap, &net, 1, 3, &[1, 3])?;
     for link in net.links.iter_mut() {
         link.usable = link.metres == 6;
     }
-    shortest(&rt, heap, &net, 1, 2, &[2])?;
-    mildest(&rt, heap, &net, 1, 3, &[])
+    chosen::<Metres>(&rt, heap, &net, 1, 2, &[2])?;
+    chosen::<Loss>(&rt, heap, &net, 1, 3, &[])
 }
 
 #[test]
@@ -190,19 +163,19 @@ fn no_path_where_no_link_may_be_used(rt: HostRuntime) -> Result<(), Fail> {
     for link in net.links.iter_mut() {
         link.usable = false;
     }
-    shortest(&rt, heap, &net, 1, 2, &[])?;
-    mildest(&rt, heap, &net, 3, 1, &[])
+    chosen::<Metres>(&rt, heap, &net, 1, 2, &[])?;
+    chosen::<Loss>(&rt, heap, &net, 3, 1, &[])
 }
 
 #[test]
 fn from_and_to_are_two_places(rt: HostRuntime) -> Result<(), Fail> {
     let heap = rt.alloc();
     let net = listed(heap, 3, 8, &PARALLEL)?;
-    shortest(&rt, heap, &net, 1, 1, &[])?;
-    mildest(&rt, heap, &net, 2, 2, &[])?;
-    shortest(&rt, heap, &net, 0, 1, &[])?;
-    shortest(&rt, heap, &net, 1, 4, &[])?;
-    mildest(&rt, heap, &net, 255, 255, &[])
+    chosen::<Metres>(&rt, heap, &net, 1, 1, &[])?;
+    chosen::<Loss>(&rt, heap, &net, 2, 2, &[])?;
+    chosen::<Metres>(&rt, heap, &net, 0, 1, &[])?;
+    chosen::<Metres>(&rt, heap, &net, 1, 4, &[])?;
+    chosen::<Loss>(&rt, heap, &net, 255, 255, &[])
 }
 
 // Nine places in a row with five links between neighbours, all alike: 390,625 paths from end to end.
@@ -227,9 +200,9 @@ fn the_first_of_very_many_paths(rt: HostRuntime) -> Result<(), Fail> {
     let row = row(heap)?;
     let along = wanted(&[1, 6, 11, 16, 21, 26, 31, 36]);
     let back = wanted(&[36, 31, 26, 21, 16, 11, 6, 1]);
-    assert_eq!(rt; by_length(heap, &row, 1, 9)?, along);
-    assert_eq!(rt; by_loss(heap, &row, 1, 9)?, along);
-    assert_eq!(rt; by_length(heap, &row, 9, 1)?, back);
-    assert_eq!(rt; by_loss(heap, &row, 9, 1)?, back);
+    assert_eq!(rt; found::<Metres>(heap, &row, 1, 9)?, along);
+    assert_eq!(rt; found::<Loss>(heap, &row, 1, 9)?, along);
+    assert_eq!(rt; found::<Metres>(heap, &row, 9, 1)?, back);
+    assert_eq!(rt; found::<Loss>(heap, &row, 9, 1)?, back);
     Ok(())
 }

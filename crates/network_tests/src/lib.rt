@@ -1,6 +1,5 @@
 #![tactic(auto)]
 
-pub mod dice;
 #[cfg(test)]
 mod examples;
 pub mod list_network;

@@ -1,5 +1,9 @@
-use crate::dice::Dice;
+use dice::Dice;
+use network::link::Link;
+use network::network::Network;
+use network::usable::Usable;
 use std::alloc::{AllocError, Global};
+use std::test::Fail;
 
 // A link between two places, and whether it may be used.
 #[derive(Clone, Copy)]
@@ -21,10 +25,32 @@ pub struct ListNetwork {
 
 impl ListNetwork {
     pub fn link(&self, number: u8) -> Option<ListedLink> {
-        if number == 0 {
-            return None;
+        let place = (number as usize).checked_sub(1)?;
+        self.links.get(place).copied()
+    }
+
+    // The same network, as the proved search takes it.
+    pub fn made(&self, heap: Global) -> Result<Network, Fail> {
+        let mut net = Network::new(heap, self.places as u32, self.hops as u32).map_err(
+            |_| Fail::new("no network"),
+        )?;
+        for l in self.links.iter() {
+            let link = Link::new(l.one as u32, l.two as u32, l.metres, l.loss).map_err(
+                |_| Fail::new("no link"),
+            )?;
+            net.add(link)
+                .map_err(|_| Fail::new("a link was not added"))?;
         }
-        self.links.get(number as usize - 1).copied()
+        Ok(net)
+    }
+
+    // Which of its links may be used, as the proved search takes it.
+    pub fn usable(&self) -> Usable {
+        let mut usable = Usable::none();
+        for (number, link) in (1..=40u8).zip(self.links.iter()) {
+            usable.set(number, link.usable);
+        }
+        usable
     }
 }
 

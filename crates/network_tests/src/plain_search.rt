@@ -1,9 +1,26 @@
-use crate::list_network::{ListNetwork, ListedLink};
+ghost use Rattle.std.specs.Prelude.{◌<◌};
 
-#[derive(Clone, Copy)]
-pub enum CostKind {
-    Length,
-    Worst,
+use crate::list_network::{ListNetwork, ListedLink};
+use network::cost::Cost;
+use network::loss::Loss;
+use network::metres::Metres;
+
+// A cost kind, with what the plain search makes of it: it adds or compares on its own, on plain numbers.
+pub trait PlainCost: Cost {
+    // The cost of a list of links with one more.
+    fn joined(cost: u32, link: ListedLink) -> u32;
+}
+
+impl PlainCost for Metres {
+    fn joined(cost: u32, link: ListedLink) -> u32 {
+        cost.saturating_add(link.metres)
+    }
+}
+
+impl PlainCost for Loss {
+    fn joined(cost: u32, link: ListedLink) -> u32 {
+        cost.max(link.loss)
+    }
 }
 
 // A list of link numbers with its cost, and zeros after the last. The order of the fields is the order of choice: the
@@ -27,26 +44,16 @@ struct Walk {
 #[derive(Drop)]
 struct Search<'a> {
     net: &'a ListNetwork,
-    kind: CostKind,
     to: u8,
-}
-
-fn joined(kind: CostKind, cost: u32, link: ListedLink) -> u32 {
-    match kind {
-        CostKind::Length => cost.saturating_add(link.metres),
-        CostKind::Worst => cost.max(link.loss),
-    }
 }
 
 // The other end of a link, where v is one end.
 fn far_end(link: ListedLink, v: u8) -> Option<u8> {
     if link.one == v {
-        return Some(link.two);
+        Some(link.two)
+    } else {
+        (link.two == v).then_some(link.one)
     }
-    if link.two == v {
-        return Some(link.one);
-    }
-    None
 }
 
 impl PricedList {
@@ -60,14 +67,6 @@ impl PricedList {
             count: self.count.saturating_add(1),
             links,
         }
-    }
-}
-
-fn lesser(x: Option<PricedList>, y: Option<PricedList>) -> Option<PricedList> {
-    match (x, y) {
-        (Some(a), Some(b)) => Some(if b < a { b } else { a }),
-        (Some(_), None) => x,
-        (None, _) => y,
     }
 }
 
@@ -102,38 +101,40 @@ impl Walk {
 
 impl Search<'_> {
     // The walk with one more link, where that may be used and leads on to a place not yet touched.
-    fn further(&self, walk: Walk, number: u8) -> Option<Walk> {
+    fn further<C: PlainCost>(&self, walk: Walk, number: u8) -> Option<Walk> {
         let link = self.net.link(number)?;
         let v = far_end(link, walk.at)?;
         if !link.usable || walk.has_touched(v) {
             return None;
         }
-        let cost = joined(self.kind, walk.list.cost, link);
+        let cost = C::joined(walk.list.cost, link);
         let touched = walk.touched;
         Some(arrived(walk.list.with(number, cost), touched, v))
     }
 
     // The chosen one of all paths that begin with the walk and have at most `left` links more. A path is at an end where
     // it arrives, since it would touch that place twice otherwise.
-    fn best_from(&self, walk: Walk, left: u8) -> Option<PricedList> {
+    #[cycle(best_from)]
+    fn best_from<C: PlainCost>(&self, walk: Walk, left: u8) -> Option<PricedList> {
         if walk.list.count > 0 && walk.at == self.to {
             return Some(walk.list);
         }
         if left == 0 {
             return None;
         }
-        let mut best = None;
-        for number in 1..41u8 {
-            if let Some(further) = self.further(walk, number) {
-                best = lesser(best, self.best_from(further, left - 1));
-            }
-        }
-        best
+        (1..41u8)
+            .filter_map(|number| self.further::<C>(walk, number))
+            .filter_map(
+                |further|
+                    requires { 0 < left }
+                { self.best_from::<C>(further, left - 1) },
+            )
+            .min()
     }
 }
 
 // The chosen path, found by going through all paths.
-pub fn plain_path(net: &ListNetwork, kind: CostKind, from: u8, to: u8) -> Option<PricedList> {
-    let search = Search { net, kind, to };
-    search.best_from(Walk::starting(from), net.hops)
+pub fn plain_path<C: PlainCost>(net: &ListNetwork, from: u8, to: u8) -> Option<PricedList> {
+    let search = Search { net, to };
+    search.best_from::<C>(Walk::starting(from), net.hops)
 }

@@ -1,11 +1,22 @@
 use calendar::run::Run;
 
+#[derive(Clone, Copy, PartialEq, Eq)]
+pub enum Cell {
+    Free,
+    Start,
+    Later,
+}
+
 // A plant the plain way, to measure against: a byte for each cell, and every call goes hour by hour.
-// 0 is a free cell, 1 the start of a run, 2 a later hour of one.
 #[derive(Drop)]
 pub struct HourTable {
-    pub cells: Vec<u8>,
+    pub cells: Vec<Cell>,
     pub channels: usize,
+}
+
+// What the hour of a live run is.
+fn of_run(j: u8) -> Cell {
+    if j == 0 { Cell::Start } else { Cell::Later }
 }
 
 impl HourTable {
@@ -15,52 +26,44 @@ impl HourTable {
         row * 168 + (run.first as usize + j as usize) % 168
     }
 
-    fn cell(&self, run: Run, j: u8) -> u8 {
-        self.cells.get(self.place(run, j)).copied().unwrap_or(0)
+    fn cell(&self, run: Run, j: u8) -> Cell {
+        let place = self.place(run, j);
+        self.cells.get(place).copied().unwrap_or(Cell::Free)
     }
 
-    fn write(&mut self, run: Run, j: u8, value: u8) {
+    fn write(&mut self, run: Run, j: u8, value: Cell) {
         let place = self.place(run, j);
-        if place < self.cells.len() {
-            self.cells[place] = value;
+        if let Some(cell) = self.cells.get_mut(place) {
+            *cell = value;
         }
     }
 
     pub fn is_free(&self, run: Run) -> bool {
-        for j in 0..run.hours {
-            if self.cell(run, j) != 0 {
-                return false;
-            }
-        }
-        true
+        (0..run.hours).all(|j| self.cell(run, j) == Cell::Free)
     }
 
     fn is_live(&self, run: Run) -> bool {
-        for j in 0..run.hours {
-            if self.cell(run, j) != if j == 0 { 1 } else { 2 } {
-                return false;
-            }
-        }
-        run.hours >= 168 || self.cell(run, run.hours) != 2
+        (0..run.hours).all(|j| self.cell(run, j) == of_run(j))
+            && (run.hours >= 168 || self.cell(run, run.hours) != Cell::Later)
     }
 
     pub fn hold(&mut self, run: Run) -> bool {
-        if !self.is_free(run) {
-            return false;
+        let free = self.is_free(run);
+        if free {
+            for j in 0..run.hours {
+                self.write(run, j, of_run(j));
+            }
         }
-        for j in 0..run.hours {
-            self.write(run, j, if j == 0 { 1 } else { 2 });
-        }
-        true
+        free
     }
 
     pub fn release(&mut self, run: Run) -> bool {
-        if !self.is_live(run) {
-            return false;
+        let live = self.is_live(run);
+        if live {
+            for j in 0..run.hours {
+                self.write(run, j, Cell::Free);
+            }
         }
-        for j in 0..run.hours {
-            self.write(run, j, 0);
-        }
-        true
+        live
     }
 }

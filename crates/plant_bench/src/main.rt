@@ -7,94 +7,82 @@ mod subject;
 use anyhow::anyhow;
 use bitmap::map::Map;
 use calendar::run::Run;
-use hour_table::HourTable;
+use hour_table::{Cell, HourTable};
 use plant::timetable::Timetable;
 use rounds::all_rounds;
 use std::alloc::Global;
 use std::env;
 use std::time::Instant;
-use subject::{Proved, Subject};
+use subject::Subject;
 
 fn plain_table(heap: Global) -> anyhow::Result<HourTable> {
-    let cells: Vec<u8> = vec![in heap; 0; 107_520]?;
+    let cells: Vec<Cell> = vec![in heap; Cell::Free; 107_520]?;
     Ok(HourTable {
         cells,
         channels: 16,
     })
 }
 
-fn map(heap: Global) -> anyhow::Result<Proved<Map>> {
+fn map(heap: Global) -> anyhow::Result<Map> {
     let words: Vec<u64> = vec![in heap; 0; 3840]?;
-    match Map::new(words, 40, 16) {
-        Ok(plant) => Ok(Proved { plant }),
-        Err(_) => Err(anyhow!("no map")),
-    }
+    Map::new(words, 40, 16).map_err(|_| anyhow!("no map"))
 }
 
-fn timetable(heap: Global) -> anyhow::Result<Proved<Timetable>> {
-    let empty = Run {
-        link: 0,
-        channel: 0,
-        first: 0,
-        hours: 0,
-    };
-    let rows: Vec<Run> = vec![in heap; empty; 1024]?;
-    match Timetable::new(rows, 40, 16) {
-        Ok(plant) => Ok(Proved { plant }),
-        Err(_) => Err(anyhow!("no timetable")),
-    }
+fn timetable(heap: Global) -> anyhow::Result<Timetable> {
+    let rows: Vec<Run> = vec![in heap; Run::default(); 1024]?;
+    Timetable::new(rows, 40, 16).map_err(|_| anyhow!("no timetable"))
 }
 
-// Makes the rounds, and prints how many calls were done, or, where they are measured, how many a second.
+// What is printed: how many calls one round did, or how many a second so many rounds did.
+#[derive(Clone, Copy)]
+enum Mode {
+    Once,
+    Timed { rounds: u32 },
+}
+
 fn measure<S: Subject>(
     rt: &HostRuntime,
     name: &str,
     subject: &mut S,
-    count: u32,
     hours: u8,
-    timed: bool,
+    mode: Mode,
 ) -> anyhow::Result<()> {
-    let start = Instant::now(rt)?;
-    let done = all_rounds(subject, count, hours);
-    let micros = start.elapsed(rt)?.as_micros();
-    if timed {
-        let rate = (done as u128).saturating_mul(1_000_000) / micros.max(1);
-        println!(rt; "{name}, runs of {hours} hours: {rate} calls a second")?;
-    } else {
-        println!(rt; "{name}, runs of {hours} hours: {done} calls done")?;
+    print!(rt; "{name}, runs of {hours} hours: ")?;
+    match mode {
+        Mode::Once => {
+            let done = all_rounds(subject, 1, hours);
+            println!(rt; "{done} calls done")?;
+        }
+        Mode::Timed { rounds } => {
+            let start = Instant::now(rt)?;
+            let done = all_rounds(subject, rounds, hours);
+            let micros = start.elapsed(rt)?.as_micros();
+            let rate = (done as u128).saturating_mul(1_000_000) / micros.max(1);
+            println!(rt; "{rate} calls a second")?;
+        }
     }
     Ok(())
 }
 
-fn measure_all(rt: &HostRuntime, hours: u8, scale: u32, timed: bool) -> anyhow::Result<()> {
-    measure(
-        rt,
-        "plain table",
-        &mut plain_table(rt.alloc())?,
-        scale,
-        hours,
-        timed,
-    )?;
-    measure(rt, "map", &mut map(rt.alloc())?, scale, hours, timed)?;
-    measure(
-        rt,
-        "timetable",
-        &mut timetable(rt.alloc())?,
-        scale,
-        hours,
-        timed,
-    )
-}
-
-fn bench(rt: &HostRuntime) -> anyhow::Result<()> {
-    let timed = env::args(rt)?.count() > 1;
-    let scale = if timed { 200 } else { 1 };
-    measure_all(rt, 4, scale, timed)?;
-    measure_all(rt, 84, scale, timed)?;
-    measure_all(rt, 168, scale, timed)
+fn measure_all(rt: &HostRuntime, hours: u8, mode: Mode) -> anyhow::Result<()> {
+    let heap = rt.alloc();
+    measure(rt, "plain table", &mut plain_table(heap)?, hours, mode)?;
+    measure(rt, "map", &mut map(heap)?, hours, mode)?;
+    measure(rt, "timetable", &mut timetable(heap)?, hours, mode)
 }
 
 // With an argument, measures; without, makes one round of each and prints what was done.
+fn bench(rt: &HostRuntime) -> anyhow::Result<()> {
+    let mode = if env::args(rt)?.count() > 1 {
+        Mode::Timed { rounds: 200 }
+    } else {
+        Mode::Once
+    };
+    measure_all(rt, 4, mode)?;
+    measure_all(rt, 84, mode)?;
+    measure_all(rt, 168, mode)
+}
+
 fn main(rt: HostRuntime) -> anyhow::Result<()> {
     bench(&rt)
 }

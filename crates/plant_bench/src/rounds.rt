@@ -11,44 +11,28 @@ fn step_run(step: u32, round: u32, hours: u8) -> Run {
     }
 }
 
-fn told(done: bool) -> u64 {
-    if done { 1 } else { 0 }
+// Makes the call for the run of each step, one on every link and channel; how many were done.
+fn count_done<F: FnMut(Run) -> bool>(round: u32, hours: u8, call: F) -> u64
+    requires { (state : F) (run : _) → F.pre state run }
+{
+    (0..640u32)
+        .map(|step| step_run(step, round, hours))
+        .map(call)
+        .filter(|done| *done)
+        .count() as u64
 }
 
-// Holds a run on every link and channel; how many were held.
-fn hold_all<S: Subject>(subject: &mut S, round: u32, hours: u8) -> u64 {
-    let mut count: u64 = 0;
-    for step in 0..640u32 {
-        count = count.saturating_add(told(subject.hold(step_run(step, round, hours))));
-    }
-    count
-}
-
-// Asks whether the run is free on every link and channel; how many are.
-fn ask_all<S: Subject>(subject: &S, round: u32, hours: u8) -> u64 {
-    let mut count: u64 = 0;
-    for step in 0..640u32 {
-        count = count.saturating_add(told(subject.is_free(step_run(step, round, hours))));
-    }
-    count
-}
-
-// Releases what was held; how many runs were.
-fn release_all<S: Subject>(subject: &mut S, round: u32, hours: u8) -> u64 {
-    let mut count: u64 = 0;
-    for step in 0..640u32 {
-        count = count.saturating_add(told(subject.release(step_run(step, round, hours))));
-    }
-    count
+// Asks whether every run is free, holds them, and releases what was held.
+fn one_round<S: Subject>(subject: &mut S, round: u32, hours: u8) -> u64 {
+    let free = count_done(round, hours, |run| subject.is_free(run));
+    let held = count_done(round, hours, |run| subject.hold(run));
+    let released = count_done(round, hours, |run| subject.release(run));
+    free.saturating_add(held).saturating_add(released)
 }
 
 // Makes 1,920 calls a round, and counts those that were done or found a free run: all of them.
 pub fn all_rounds<S: Subject>(subject: &mut S, count: u32, hours: u8) -> u64 {
-    let mut done: u64 = 0;
-    for round in 0..count {
-        done = done.saturating_add(ask_all(subject, round, hours));
-        done = done.saturating_add(hold_all(subject, round, hours));
-        done = done.saturating_add(release_all(subject, round, hours));
-    }
-    done
+    (0..count)
+        .map(|round| one_round(subject, round, hours))
+        .fold(0, u64::saturating_add)
 }

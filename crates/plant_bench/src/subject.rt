@@ -25,22 +25,16 @@ impl Subject for HourTable {
     }
 }
 
-// A plant as a subject.
-#[derive(Drop)]
-pub struct Proved<P> {
-    pub plant: P,
-}
-
-impl<P: Plant> Subject for Proved<P> {
+impl<P: Plant> Subject for P {
     fn hold(&mut self, run: Run) -> bool {
-        self.plant.hold(run).is_ok()
+        Plant::hold(self, run).is_ok()
     }
 
     fn release(&mut self, run: Run) -> bool {
-        self.plant.release(run).is_ok()
+        Plant::release(self, run).is_ok()
     }
 
     fn is_free(&self, run: Run) -> bool {
-        self.plant.first_taken(run).is_none()
+        self.first_taken(run).is_none()
     }
 }

@@ -1,7 +1,7 @@
-use crate::dice::Dice;
 use crate::list_plant::ListPlant;
-use calendar::refusal::answer_number;
-use calendar::run::Run;
+use calendar::refusal::PlantRefusal;
+use calendar::run::{Run, Size};
+use dice::Dice;
 use plant::Plant;
 use std::alloc::AllocError;
 
@@ -18,46 +18,50 @@ pub enum Call {
     FirstTaken(Run),
 }
 
-fn told(answer: bool) -> u32 {
-    if answer { 1 } else { 0 }
+// What a plant answers to it.
+#[derive(Clone, Copy, Debug, PartialEq, Eq)]
+pub enum Answer {
+    Size(Size),
+    Count(u32),
+    Yes(bool),
+    Done(Result<(), PlantRefusal>),
+    Found(Option<u8>),
 }
 
-fn found(hour: Option<u8>) -> u32 {
-    match hour {
-        Some(h) => h as u32,
-        None => 1000,
-    }
-}
-
-// What the plant answers, as a number.
-pub fn answer<P: Plant>(plant: &mut P, call: Call) -> u32 {
+pub fn proved_answer<P: Plant>(plant: &mut P, call: Call) -> Answer {
     match call {
-        Call::Size => {
-            let size = plant.size();
-            size.links as u32 * 100 + size.channels as u32
-        }
-        Call::Room => plant.room(),
-        Call::Closed(run) => told(plant.closed(run.link, run.channel, run.first)),
-        Call::Held(run) => told(plant.held(run.link, run.channel, run.first)),
-        Call::HeldCount(link) => plant.held_count(link),
-        Call::Hold(run) => answer_number(plant.hold(run)) as u32,
-        Call::Release(run) => answer_number(plant.release(run)) as u32,
-        Call::FirstTaken(run) => found(plant.first_taken(run)),
+        Call::Size => Answer::Size(plant.size()),
+        Call::Room => Answer::Count(plant.room()),
+        Call::Closed(run) => Answer::Yes(plant.closed(run.link, run.channel, run.first)),
+        Call::Held(run) => Answer::Yes(plant.held(run.link, run.channel, run.first)),
+        Call::HeldCount(link) => Answer::Count(plant.held_count(link)),
+        Call::Hold(run) => Answer::Done(plant.hold(run)),
+        Call::Release(run) => Answer::Done(plant.release(run)),
+        Call::FirstTaken(run) => Answer::Found(plant.first_taken(run)),
     }
 }
 
-// What the plain plant answers, as a number.
-pub fn plain_answer(plant: &mut ListPlant, call: Call) -> Result<u32, AllocError> {
+// What the plain plant answers.
+pub fn plain_answer(plant: &mut ListPlant, call: Call) -> Result<Answer, AllocError> {
     Ok(match call {
-        Call::Size => plant.links as u32 * 100 + plant.channels as u32,
-        Call::Room => plant.room(),
-        Call::Closed(run) => told(plant.closed(run.link, run.channel, run.first)),
-        Call::Held(run) => told(plant.held(run.link, run.channel, run.first)),
-        Call::HeldCount(link) => plant.held_count(link),
-        Call::Hold(run) => plant.hold(run)? as u32,
-        Call::Release(run) => plant.release(run) as u32,
-        Call::FirstTaken(run) => found(plant.first_taken(run)),
+        Call::Size => Answer::Size(plant.size()),
+        Call::Room => Answer::Count(plant.room()),
+        Call::Closed(run) => Answer::Yes(plant.closed(run.link, run.channel, run.first)),
+        Call::Held(run) => Answer::Yes(plant.held(run.link, run.channel, run.first)),
+        Call::HeldCount(link) => Answer::Count(plant.held_count(link)),
+        Call::Hold(run) => Answer::Done(plant.hold(run)?),
+        Call::Release(run) => Answer::Done(plant.release(run)),
+        Call::FirstTaken(run) => Answer::Found(plant.first_taken(run)),
     })
+}
+
+pub fn run(link: u8, channel: u8, first: u8, hours: u8) -> Run {
+    Run {
+        link,
+        channel,
+        first,
+        hours,
+    }
 }
 
 // A first hour: mostly one of the week, with its edges often, and now and then one outside.
@@ -86,16 +90,12 @@ fn some_hours(dice: &mut Dice) -> u8 {
 
 // A run near the edges of the sizes, inside or just outside.
 pub fn some_run(dice: &mut Dice, links: u8, channels: u8) -> Run {
-    let link = dice.small(links.saturating_add(2));
-    let channel = dice.small(channels.saturating_add(2));
-    let first = some_first(dice);
-    let hours = some_hours(dice);
-    Run {
-        link,
-        channel,
-        first,
-        hours,
-    }
+    run(
+        dice.small(links.saturating_add(2)),
+        dice.small(channels.saturating_add(2)),
+        some_first(dice),
+        some_hours(dice),
+    )
 }
 
 // A run to release: mostly one that is live.

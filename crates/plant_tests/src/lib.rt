@@ -3,7 +3,6 @@
 #[cfg(test)]
 mod bottoms;
 pub mod calls;
-pub mod dice;
 #[cfg(test)]
 mod edges;
 pub mod list_plant;

@@ -1,4 +1,5 @@
-use calendar::run::{Run, Window};
+use calendar::refusal::PlantRefusal;
+use calendar::run::{Run, Size, Window};
 use std::alloc::AllocError;
 
 // A plant written the plain way, to compare the others with: a list of live runs, and every question answered
@@ -14,138 +15,110 @@ pub struct ListPlant {
     pub runs: Vec<Run>,
 }
 
-fn covered(first: u8, hours: u8, hour: u8) -> bool {
-    for j in 0..hours {
-        if (first as u16 + j as u16) % 168 == hour as u16 {
-            return true;
-        }
-    }
-    false
+// Its own reckoning of the week, its own limits and its own order of refusals: none of the code that it judges.
+fn hour_of(first: u8, after: u8) -> u8 {
+    ((first as u16 + after as u16) % 168) as u8
 }
 
-fn same(a: Run, b: Run) -> bool {
-    a.link == b.link && a.channel == b.channel && a.first == b.first && a.hours == b.hours
+fn covered(first: u8, hours: u8, hour: u8) -> bool {
+    (0..hours).any(|after| hour_of(first, after) == hour)
+}
+
+// The first hour of the run of which that is so.
+fn first_hour<F: Fn(u8) -> bool>(run: Run, is_so: F) -> Option<u8>
+    requires { F.IsAlwaysCallable is_so }
+{
+    (0..run.hours)
+        .map(|after| hour_of(run.first, after))
+        .find(|hour| is_so(*hour))
 }
 
 impl ListPlant {
-    fn outside(&self, link: u8, channel: u8, hour: u8) -> bool {
-        link < 1 || link > self.links || channel < 1 || channel > self.channels || hour > 167
+    pub fn size(&self) -> Size {
+        Size {
+            links: self.links,
+            channels: self.channels,
+        }
     }
 
-    fn improper(&self, run: Run) -> bool {
-        self.outside(run.link, run.channel, run.first) || run.hours < 1 || run.hours > 168
+    fn inside(&self, link: u8, channel: u8, hour: u8) -> bool {
+        (1..=self.links).contains(&link) && (1..=self.channels).contains(&channel) && hour <= 167
+    }
+
+    fn proper(&self, run: Run) -> bool {
+        self.inside(run.link, run.channel, run.first) && (1..=168).contains(&run.hours)
     }
 
     pub fn closed(&self, link: u8, channel: u8, hour: u8) -> bool {
-        if self.outside(link, channel, hour) {
-            return true;
-        }
-        for lacked in self.lacking.iter() {
-            if *lacked == channel {
-                return true;
-            }
-        }
-        for window in self.windows.iter() {
-            if window.link == link && covered(window.first, window.hours, hour) {
-                return true;
-            }
-        }
-        false
+        !self.inside(link, channel, hour)
+            || self.lacking.contains(&channel)
+            || self.windows.iter().any(|window| window.link == link
+                && covered(window.first, window.hours, hour))
     }
 
     pub fn held(&self, link: u8, channel: u8, hour: u8) -> bool {
-        for run in self.runs.iter() {
-            if run.link == link && run.channel == channel && covered(run.first, run.hours, hour) {
-                return true;
-            }
-        }
-        false
+        self.runs.iter().any(|run| {
+            run.link == link && run.channel == channel && covered(run.first, run.hours, hour)
+        })
     }
 
     pub fn room(&self) -> u32 {
-        let mut room = self.limit;
-        for _ in self.runs.iter() {
-            room = room.saturating_sub(1);
-        }
-        room
+        (self.limit as usize).saturating_sub(self.runs.len()) as u32
+    }
+
+    // The held hours of one channel.
+    fn held_hours(&self, link: u8, channel: u8) -> u32 {
+        (0..168u8)
+            .filter(|hour| self.held(link, channel, *hour))
+            .count() as u32
     }
 
     pub fn held_count(&self, link: u8) -> u32 {
-        let mut count: u32 = 0;
-        for channel in 1..17u8 {
-            for hour in 0..168u8 {
-                if self.held(link, channel, hour) {
-                    count = count.saturating_add(1);
-                }
-            }
-        }
-        count
+        (1..=16u8)
+            .map(|channel| self.held_hours(link, channel))
+            .fold(0, u32::saturating_add)
     }
 
-    fn some_closed(&self, run: Run) -> bool {
-        for j in 0..run.hours {
-            if self.closed(run.link, run.channel, hour_of(run.first, j)) {
-                return true;
-            }
+    fn may_hold(&self, run: Run) -> Result<(), PlantRefusal> {
+        let closed = |hour| self.closed(run.link, run.channel, hour);
+        let held = |hour| self.held(run.link, run.channel, hour);
+        if !self.proper(run) {
+            Err(PlantRefusal::OutOfRange)
+        } else if first_hour(run, closed).is_some() {
+            Err(PlantRefusal::CellClosed)
+        } else if first_hour(run, held).is_some() {
+            Err(PlantRefusal::CellHeld)
+        } else if self.room() == 0 {
+            Err(PlantRefusal::NoRoom)
+        } else {
+            Ok(())
         }
-        false
     }
 
-    fn some_held(&self, run: Run) -> bool {
-        for j in 0..run.hours {
-            if self.held(run.link, run.channel, hour_of(run.first, j)) {
-                return true;
-            }
+    // The answer, where there is memory for the run.
+    pub fn hold(&mut self, run: Run) -> Result<Result<(), PlantRefusal>, AllocError> {
+        let answer = self.may_hold(run);
+        if answer.is_ok() {
+            self.runs.push(run)?;
         }
-        false
+        Ok(answer)
     }
 
-    // The number of the answer.
-    pub fn hold(&mut self, run: Run) -> Result<u8, AllocError> {
-        if self.improper(run) {
-            return Ok(21);
+    pub fn release(&mut self, run: Run) -> Result<(), PlantRefusal> {
+        if !self.proper(run) {
+            return Err(PlantRefusal::OutOfRange);
         }
-        if self.some_closed(run) {
-            return Ok(22);
-        }
-        if self.some_held(run) {
-            return Ok(23);
-        }
-        if self.room() == 0 {
-            return Ok(24);
-        }
-        self.runs.push(run)?;
-        Ok(0)
-    }
-
-    // The number of the answer.
-    pub fn release(&mut self, run: Run) -> u8 {
-        if self.improper(run) {
-            return 21;
-        }
-        for i in 0..self.runs.len() {
-            if same(self.runs[i], run) {
-                let _ = self.runs.remove(i);
-                return 0;
-            }
-        }
-        25
+        let live = self.runs.iter().position(|live| *live == run);
+        let _ = self.runs.remove(live.ok_or(PlantRefusal::NoSuchRun)?);
+        Ok(())
     }
 
     pub fn first_taken(&self, run: Run) -> Option<u8> {
-        if self.improper(run) {
+        if !self.proper(run) {
             return Some(run.first);
         }
-        for j in 0..run.hours {
-            let hour = hour_of(run.first, j);
-            if self.closed(run.link, run.channel, hour) || self.held(run.link, run.channel, hour) {
-                return Some(hour);
-            }
-        }
-        None
+        first_hour(run, |hour| {
+            self.closed(run.link, run.channel, hour) || self.held(run.link, run.channel, hour)
+        })
     }
-}
-
-fn hour_of(first: u8, j: u8) -> u8 {
-    ((first as u16 + j as u16) % 168) as u8
 }

@@ -1,5 +1,6 @@
 use crate::bottoms::{rows, words};
 use bitmap::map::Map;
+use calendar::refusal::MakingRefusal;
 use layers::card_table::CardTable;
 use layers::offset::Offset;
 use layers::window_table::WindowTable;
@@ -9,7 +10,12 @@ use std::alloc::Global;
 use std::process::Abort;
 use std::test::Fail;
 
-// The number of the refusal to make a timetable, 0 where it is made; the rows come back as they were.
+// The number of the refusal; 0 where there is none.
+fn number<T: Drop>(made: Result<T, MakingRefusal>) -> u8 {
+    made.err().map_or(0, MakingRefusal::number)
+}
+
+// Makes a timetable; the rows come back as they were where it is refused.
 fn timetable_number(
     rt: &impl Abort,
     heap: Global,
@@ -17,19 +23,15 @@ fn timetable_number(
     links: u32,
     channels: u32,
 ) -> Result<u8, Fail> {
-    match Timetable::new(rows(heap, count)?, links, channels) {
-        Ok(plant) => {
-            assert_eq!(rt; plant.room() as usize, count);
-            Ok(0)
-        }
-        Err(refused) => {
-            assert!(rt; refused.rows.len() == count);
-            for row in refused.rows.iter() {
-                assert_eq!(rt; row.link, 9);
-            }
-            Ok(refused.why.number())
-        }
+    let made = Timetable::new(rows(heap, count)?, links, channels).map_err(|refused| {
+        assert!(rt; refused.rows.len() == count);
+        assert!(rt; refused.rows.iter().all(|row| row.link == 9));
+        refused.why
+    });
+    if let Ok(plant) = &made {
+        assert_eq!(rt; plant.room() as usize, count);
     }
+    Ok(number(made))
 }
 
 #[test]
@@ -45,7 +47,7 @@ fn a_timetable_is_made_within_its_limits(rt: HostRuntime) -> Result<(), Fail> {
     Ok(())
 }
 
-// The number of the refusal to make a map, 0 where it is made; words past those needed are as they were.
+// Makes a map; words past those needed are as they were, and all come back where it is refused.
 fn map_number(
     rt: &impl Abort,
     heap: Global,
@@ -53,23 +55,22 @@ fn map_number(
     links: u32,
     channels: u32,
 ) -> Result<u8, Fail> {
-    match Map::new(words(heap, count)?, links, channels) {
-        Ok(plant) => {
-            let words = plant.into_words();
-            assert!(rt; words.len() == count);
-            let needed = (links as usize)
-                .saturating_mul(channels as usize)
-                .saturating_mul(6);
-            for (i, word) in words.iter().enumerate() {
-                assert_eq!(rt; *word, if i < needed { 0 } else { u64::MAX });
-            }
-            Ok(0)
-        }
-        Err(refused) => {
+    let made = Map::new(words(heap, count)?, links, channels)
+        .map(|plant| plant.into_words())
+        .map_err(|refused| {
             assert!(rt; refused.words.len() == count);
-            Ok(refused.why.number())
+            refused.why
+        });
+    if let Ok(words) = &made {
+        assert!(rt; words.len() == count);
+        let needed = (links as usize)
+            .saturating_mul(channels as usize)
+            .saturating_mul(6);
+        for (i, word) in words.iter().enumerate() {
+            assert_eq!(rt; *word, if i < needed { 0 } else { u64::MAX });
         }
     }
+    Ok(number(made))
 }
 
 #[test]
@@ -85,66 +86,45 @@ fn a_map_is_made_within_its_limits(rt: HostRuntime) -> Result<(), Fail> {
     Ok(())
 }
 
-fn window_number(table: &mut WindowTable, link: u32, first: u32, hours: u32) -> u8 {
-    match table.add(link, first, hours) {
-        Ok(()) => 0,
-        Err(why) => why.number(),
-    }
-}
-
 #[test]
 fn windows_are_added_within_their_limits(rt: HostRuntime) {
     let mut table = WindowTable::new();
-    assert_eq!(rt; window_number(&mut table, 0, 0, 1), 13);
-    assert_eq!(rt; window_number(&mut table, 41, 0, 1), 13);
-    assert_eq!(rt; window_number(&mut table, 1, 168, 1), 13);
-    assert_eq!(rt; window_number(&mut table, 1, 0, 0), 13);
-    assert_eq!(rt; window_number(&mut table, 1, 0, 169), 13);
-    assert_eq!(rt; window_number(&mut table, 257, 0, 1), 13);
+    assert_eq!(rt; number(table.add(0, 0, 1)), 13);
+    assert_eq!(rt; number(table.add(41, 0, 1)), 13);
+    assert_eq!(rt; number(table.add(1, 168, 1)), 13);
+    assert_eq!(rt; number(table.add(1, 0, 0)), 13);
+    assert_eq!(rt; number(table.add(1, 0, 169)), 13);
+    assert_eq!(rt; number(table.add(257, 0, 1)), 13);
     for _ in 0..8 {
-        assert_eq!(rt; window_number(&mut table, 40, 167, 168), 0);
+        assert_eq!(rt; number(table.add(40, 167, 168)), 0);
     }
-    assert_eq!(rt; window_number(&mut table, 1, 0, 1), 13);
-}
-
-fn offset_number(hours: u32) -> u8 {
-    match Offset::new(hours) {
-        Ok(_) => 0,
-        Err(why) => why.number(),
-    }
+    assert_eq!(rt; number(table.add(1, 0, 1)), 13);
 }
 
 #[test]
 fn an_offset_is_an_hour_of_the_week(rt: HostRuntime) {
-    assert_eq!(rt; offset_number(0), 0);
-    assert_eq!(rt; offset_number(167), 0);
-    assert_eq!(rt; offset_number(168), 13);
-    assert_eq!(rt; offset_number(u32::MAX), 13);
-}
-
-fn card_number(order: [u8; 16]) -> u8 {
-    match CardTable::new(order) {
-        Ok(_) => 0,
-        Err(why) => why.number(),
-    }
+    assert_eq!(rt; number(Offset::new(0)), 0);
+    assert_eq!(rt; number(Offset::new(167)), 0);
+    assert_eq!(rt; number(Offset::new(168)), 13);
+    assert_eq!(rt; number(Offset::new(u32::MAX)), 13);
 }
 
 #[test]
 fn a_card_order_has_sixteen_different_cards(rt: HostRuntime) {
     assert_eq!(rt;
-        card_number([16, 15, 14, 13, 12, 11, 10, 9, 8, 7, 6, 5, 4, 3, 2, 1]),
+        number(CardTable::new([16, 15, 14, 13, 12, 11, 10, 9, 8, 7, 6, 5, 4, 3, 2, 1])),
         0
     );
     assert_eq!(rt;
-        card_number([1, 2, 3, 4, 5, 6, 7, 8, 9, 10, 11, 12, 13, 14, 15, 1]),
+        number(CardTable::new([1, 2, 3, 4, 5, 6, 7, 8, 9, 10, 11, 12, 13, 14, 15, 1])),
         13
     );
     assert_eq!(rt;
-        card_number([0, 2, 3, 4, 5, 6, 7, 8, 9, 10, 11, 12, 13, 14, 15, 16]),
+        number(CardTable::new([0, 2, 3, 4, 5, 6, 7, 8, 9, 10, 11, 12, 13, 14, 15, 16])),
         13
     );
     assert_eq!(rt;
-        card_number([1, 2, 3, 4, 5, 6, 7, 8, 9, 10, 11, 12, 13, 14, 15, 17]),
+        number(CardTable::new([1, 2, 3, 4, 5, 6, 7, 8, 9, 10, 11, 12, 13, 14, 15, 17])),
         13
     );
 }

@@ -8,7 +8,6 @@ use layers::window_table::WindowTable;
 use layers::windows::Windows;
 use plant::Plant;
 use std::alloc::Global;
-use std::process::Abort;
 use std::test::Fail;
 
 // The channel of the plant below that each of the sixteen shows.
@@ -25,59 +24,62 @@ pub fn plain(heap: Global, links: u8, channels: u8, limit: u32) -> ListPlant {
     }
 }
 
-fn some_windows(rt: &impl Abort) -> WindowTable {
+// The windows of the plant below.
+const WINDOWS: [Window; 3] = [
+    Window {
+        link: 1,
+        first: 160,
+        hours: 20,
+    },
+    Window {
+        link: 2,
+        first: 5,
+        hours: 1,
+    },
+    Window {
+        link: 40,
+        first: 0,
+        hours: 168,
+    },
+];
+
+fn some_windows() -> Result<WindowTable, Fail> {
     let mut table = WindowTable::new();
-    let turn = table.add(1, 160, 20).is_ok();
-    let hour = table.add(2, 5, 1).is_ok();
-    let lacked = table.add(40, 0, 168).is_ok();
-    assert!(rt; turn && hour && lacked);
-    table
+    for window in WINDOWS.iter() {
+        table.add(window.link as u32, window.first as u32, window.hours as u32)?;
+    }
+    Ok(table)
 }
 
 // The same windows, as one sees them whose hour is `offset` hours behind.
 fn note_windows(plain: &mut ListPlant, offset: u8) -> Result<(), Fail> {
-    let turn = ((160 + 336 - offset as u16) % 168) as u8;
-    let hour = ((5 + 336 - offset as u16) % 168) as u8;
-    plain.windows.push(Window {
-        link: 1,
-        first: turn,
-        hours: 20,
-    })?;
-    plain.windows.push(Window {
-        link: 2,
-        first: hour,
-        hours: 1,
-    })?;
+    for window in WINDOWS.iter() {
+        let first = ((window.first as u16 + 336 - offset as u16) % 168) as u8;
+        plain.windows.push(Window { first, ..*window })?;
+    }
     Ok(())
 }
 
 // The channels of a card order that no channel below serves.
 fn note_cards(plain: &mut ListPlant, channels: u8) -> Result<(), Fail> {
-    for w in 1..17u8 {
-        if CARDS[w as usize - 1] > channels {
-            plain.lacking.push(w)?;
+    for (channel, below) in (1..=16u8).zip(CARDS.iter()) {
+        if *below > channels {
+            plain.lacking.push(channel)?;
         }
     }
     Ok(())
 }
 
-pub fn windowed<P: Plant + Drop>(rt: &impl Abort, bottom: P) -> Windows<P> {
-    let table = some_windows(rt);
-    Windows::new(bottom, table)
+pub fn windowed<P: Plant + Drop>(bottom: P) -> Result<Windows<P>, Fail> {
+    Ok(Windows::new(bottom, some_windows()?))
 }
 
 pub fn clocked<P: Plant + Drop>(bottom: P, hours: u32) -> Result<Clock<P>, Fail> {
-    match Offset::new(hours) {
-        Ok(table) => Ok(Clock::new(bottom, table)),
-        Err(_) => Err(Fail::new("no offset")),
-    }
+    Ok(Clock::new(bottom, Offset::new(hours)?))
 }
 
 pub fn carded<P: Plant + Drop>(bottom: P) -> Result<CardOrder<P>, Fail> {
-    match CardTable::new(CARDS) {
-        Ok(table) => Ok(CardOrder::new(bottom, table)),
-        Err(_) => Err(Fail::new("no card order")),
-    }
+    Ok(CardOrder::new(bottom, CardTable::new(CARDS)?))
 }
 
 pub fn plain_windowed(heap: Global, limit: u32, offset: u8) -> Result<ListPlant, Fail> {

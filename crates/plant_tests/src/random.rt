@@ -1,8 +1,8 @@
 use crate::bottoms::{map, timetable};
-use crate::calls::{answer, plain_answer, some_call};
-use crate::dice::Dice;
+use crate::calls::{plain_answer, proved_answer, some_call};
 use crate::list_plant::ListPlant;
 use crate::piles::{carded, clocked, plain, plain_carded, plain_tall, plain_windowed, windowed};
+use dice::Dice;
 use plant::Plant;
 use std::process::Abort;
 use std::test::Fail;
@@ -22,7 +22,7 @@ fn agree<P: Plant + Drop>(
     for _ in 0..CALLS {
         let call = some_call(&mut dice, &plain);
         let wanted = plain_answer(&mut plain, call)?;
-        assert_eq!(rt; answer(&mut plant, call), wanted);
+        assert_eq!(rt; proved_answer(&mut plant, call), wanted);
     }
     Ok(())
 }
@@ -49,7 +49,7 @@ fn layers_over_a_timetable_answer_as_the_plain_plant(rt: HostRuntime) -> Result<
     let heap = rt.alloc();
     agree(
         &rt,
-        windowed(&rt, timetable(heap, 40, 3, 4)?),
+        windowed(timetable(heap, 40, 3, 4)?)?,
         plain_windowed(heap, 40, 0)?,
         11,
     )?;
@@ -72,7 +72,7 @@ fn layers_over_a_map_answer_as_the_plain_plant(rt: HostRuntime) -> Result<(), Fa
     let heap = rt.alloc();
     agree(
         &rt,
-        windowed(&rt, map(heap, 3, 4)?),
+        windowed(map(heap, 3, 4)?)?,
         plain_windowed(heap, CELLS, 0)?,
         21,
     )?;
@@ -95,19 +95,19 @@ fn the_piles_of_office_and_rack_answer_as_the_plain_plant(rt: HostRuntime) -> Re
     let heap = rt.alloc();
     agree(
         &rt,
-        windowed(&rt, clocked(timetable(heap, 1024, 3, 4)?, 162)?),
+        windowed(clocked(timetable(heap, 1024, 3, 4)?, 162)?)?,
         plain_windowed(heap, 1024, 0)?,
         31,
     )?;
     agree(
         &rt,
-        clocked(windowed(&rt, carded(map(heap, 3, 4)?)?), 162)?,
+        clocked(windowed(carded(map(heap, 3, 4)?)?)?, 162)?,
         plain_tall(heap, CELLS, 162)?,
         32,
     )?;
     agree(
         &rt,
-        clocked(windowed(&rt, carded(timetable(heap, 9, 3, 4)?)?), 7)?,
+        clocked(windowed(carded(timetable(heap, 9, 3, 4)?)?)?, 7)?,
         plain_tall(heap, 9, 7)?,
         33,
     )

@@ -1,5 +1,5 @@
 use network_tests::list_network::ListNetwork;
-use network_tests::plain_search::{CostKind, PricedList, plain_path};
+use network_tests::plain_search::{PlainCost, PricedList, plain_path};
 use plant::Plant;
 use ways::fit::Fit;
 use ways::order::Order;
@@ -13,55 +13,36 @@ pub struct PlainWay {
 
 // Whether the channel of the link is open and not held in all hours of the order, asked hour by hour.
 fn is_free<P: Plant>(plant: &P, order: Order, link: u8, channel: u8) -> bool {
-    for j in 0..order.hours {
-        let hour = ((order.first as u16 + j as u16) % 168) as u8;
-        if plant.closed(link, channel, hour) || plant.held(link, channel, hour) {
-            return false;
-        }
-    }
-    true
+    (0..order.hours)
+        .map(|after| ((order.first as u16 + after as u16) % 168) as u8)
+        .all(|hour| !plant.closed(link, channel, hour) && !plant.held(link, channel, hour))
 }
 
 fn block_is_free<P: Plant>(plant: &P, order: Order, link: u8, first: u8) -> bool {
-    for k in 0..order.width {
-        if !is_free(plant, order, link, first.saturating_add(k)) {
-            return false;
-        }
-    }
-    true
+    (0..order.width).all(|k| is_free(plant, order, link, first.saturating_add(k)))
 }
 
 // Marks the links that may be used and on which the block is free.
 fn mark<P: Plant>(plant: &P, net: &mut ListNetwork, order: Order, first: u8, usable: &[bool]) {
-    let mut number: usize = 0;
-    for link in net.links.iter_mut() {
-        let may = usable.get(number).copied().unwrap_or(false);
-        number = number.saturating_add(1);
-        link.usable = may && block_is_free(plant, order, (number & 0xff) as u8, first);
+    for ((number, may), link) in (1..41u8).zip(usable).zip(net.links.iter_mut()) {
+        link.usable = *may && block_is_free(plant, order, number, first);
     }
 }
 
 // The first way stays, unless best fit is asked for and the next is cheaper.
-fn better(fit: Fit, best: Option<PlainWay>, next: PlainWay) -> Option<PlainWay> {
-    let Some(found) = best else {
-        return Some(next);
-    };
-    match fit {
-        Fit::First => best,
-        Fit::Best => if next.list.cost < found.list.cost {
-            Some(next)
-        } else {
-            best
-        },
+fn better(fit: Fit, best: Option<PlainWay>, next: PlainWay) -> PlainWay {
+    match (fit, best) {
+        (Fit::First, Some(found)) => found,
+        (Fit::Best, Some(found)) if found.list.cost <= next.list.cost => found,
+        _ => next,
     }
 }
 
 // The way of the order, by going through all first channels and all paths.
-pub fn plain_way<P: Plant>(
+pub fn plain_way<C: PlainCost, P: Plant>(
     plant: &P,
     net: &mut ListNetwork,
     usable: &[bool],
-    kind: CostKind,
     fit: Fit,
     order: Order,
 ) -> Option<PlainWay> {
@@ -70,8 +51,8 @@ pub fn plain_way<P: Plant>(
     for channel in 1..17u8 {
         if channel as u16 + order.width as u16 <= channels as u16 + 1 {
             mark(plant, net, order, channel, usable);
-            if let Some(list) = plain_path(net, kind, order.from, order.to) {
-                best = better(fit, best, PlainWay { channel, list });
+            if let Some(list) = plain_path::<C>(net, order.from, order.to) {
+                best = Some(better(fit, best, PlainWay { channel, list }));
             }
         }
     }

@@ -1,17 +1,15 @@
 use crate::plain_ways::plain_way;
 use bitmap::map::Map;
 use calendar::run::Run;
+use dice::Dice;
 use layers::window_table::WindowTable;
 use layers::windows::Windows;
-use network::cost::Cost;
-use network::link::Link;
 use network::loss::Loss;
 use network::metres::Metres;
 use network::network::Network;
 use network::usable::Usable;
-use network_tests::dice::Dice;
 use network_tests::list_network::{ListNetwork, some_network};
-use network_tests::plain_search::CostKind;
+use network_tests::plain_search::PlainCost;
 use plant::Plant;
 use std::alloc::Global;
 use std::process::Abort;
@@ -20,22 +18,6 @@ use ways::find::find_way;
 use ways::fit::Fit;
 use ways::order::Order;
 use ways::space::Space;
-
-fn made(heap: Global, listed: &ListNetwork) -> Result<Network, Fail> {
-    let Ok(made) = Network::new(heap, listed.places as u32, listed.hops as u32) else {
-        return Err(Fail::new("no network"));
-    };
-    let mut net = made;
-    for link in listed.links.iter() {
-        let Ok(one) = Link::new(link.one as u32, link.two as u32, link.metres, link.loss) else {
-            return Err(Fail::new("no link"));
-        };
-        if net.add(one).is_err() {
-            return Err(Fail::new("no room for the link"));
-        }
-    }
-    Ok(net)
-}
 
 // Nine links of four channels, with windows and held runs at random.
 fn some_plant(heap: Global, dice: &mut Dice) -> Result<Windows<Map>, Fail> {
@@ -48,16 +30,12 @@ fn some_plant(heap: Global, dice: &mut Dice) -> Result<Windows<Map>, Fail> {
             dice.small(60) as u32 + 1,
         );
     }
-    let Ok(map) = Map::new(words, 9, 4) else {
-        return Err(Fail::new("no map"));
-    };
+    let map = Map::new(words, 9, 4).map_err(|_| Fail::new("no map"))?;
     let mut plant = Windows::new(map, table);
     for _ in 0..dice.small(40) {
-        let link = dice.small(9).saturating_add(1);
-        let channel = dice.small(4).saturating_add(1);
         let _ = plant.hold(Run {
-            link,
-            channel,
+            link: dice.small(9).saturating_add(1),
+            channel: dice.small(4).saturating_add(1),
             first: dice.small(168),
             hours: dice.small(80).saturating_add(1),
         });
@@ -66,101 +44,74 @@ fn some_plant(heap: Global, dice: &mut Dice) -> Result<Windows<Map>, Fail> {
 }
 
 fn some_order(dice: &mut Dice) -> Order {
-    let from = dice.small(7);
-    let to = dice.small(7);
-    let width = dice.small(4).saturating_add(1);
     Order {
         number: 1,
-        from,
-        to,
-        width,
+        from: dice.small(7),
+        to: dice.small(7),
+        width: dice.small(4).saturating_add(1),
         first: dice.small(168),
         hours: dice.small(50).saturating_add(1),
     }
 }
 
-// The way that the search gives, as the plain search writes it: channel, count and links.
-fn agree<P: Plant, C: Cost>(
-    rt: &impl Abort,
-    heap: Global,
-    plant: &P,
-    listed: &mut ListNetwork,
-    usable: &[bool],
-    kind: CostKind,
-    fit: Fit,
-    order: Order,
-) -> Result<(), Fail> {
-    let net = made(heap, listed)?;
-    let mut flags = Usable::none();
-    for i in 0..usable.len().min(40) {
-        flags.set((i + 1) as u8, usable[i]);
-    }
-    let mut space: Space<C> = Space::new(heap)?;
-    let wanted = plain_way(plant, listed, usable, kind, fit, order);
-    match (
-        find_way(plant, &net, &flags, &mut space, order, fit),
-        wanted,
-    ) {
-        (None, None) => Ok(()),
-        (Some(way), Some(plain)) => {
-            assert_eq!(rt; way.channel, plain.channel);
-            assert_eq!(rt; way.path.count, plain.list.count);
-            assert_eq!(rt; way.path.links, plain.list.links);
-            Ok(())
+// A plant and a network, as the search takes it and as the plain search does, and which of its links may be used.
+#[derive(Drop)]
+struct Case {
+    plant: Windows<Map>,
+    net: Network,
+    flags: Usable,
+    listed: ListNetwork,
+    usable: Vec<bool>,
+}
+
+impl Case {
+    fn some(heap: Global, dice: &mut Dice) -> Result<Case, Fail> {
+        let listed = some_network(heap, dice)?;
+        let mut usable = Vec::new(heap);
+        for link in listed.links.iter() {
+            usable.push(link.usable)?;
         }
-        _ => Err(Fail::new("one has a way and the other none")),
+        Ok(Case {
+            plant: some_plant(heap, dice)?,
+            net: listed.made(heap)?,
+            flags: listed.usable(),
+            listed,
+            usable,
+        })
+    }
+
+    // Compares the way that the search gives with the plain search's: channel, count and links.
+    fn agree<C: PlainCost>(
+        &mut self,
+        rt: &impl Abort,
+        heap: Global,
+        fit: Fit,
+        order: Order,
+    ) -> Result<(), Fail> {
+        let mut space: Space<C> = Space::new(heap)?;
+        let found = find_way(&self.plant, &self.net, &self.flags, &mut space, order, fit);
+        let wanted = plain_way::<C, _>(&self.plant, &mut self.listed, &self.usable, fit, order);
+        match (found, wanted) {
+            (None, None) => Ok(()),
+            (Some(way), Some(plain)) => {
+                assert_eq!(rt; way.channel, plain.channel);
+                assert_eq!(rt; way.path.count, plain.list.count);
+                assert_eq!(rt; way.path.links, plain.list.links);
+                Ok(())
+            }
+            _ => Err(Fail::new("one has a way and the other none")),
+        }
     }
 }
 
 fn round(rt: &impl Abort, heap: Global, dice: &mut Dice) -> Result<(), Fail> {
-    let mut listed = some_network(heap, dice)?;
-    let mut usable = Vec::new(heap);
-    for link in listed.links.iter() {
-        usable.push(link.usable)?;
-    }
-    let plant = some_plant(heap, dice)?;
+    let mut case = Case::some(heap, dice)?;
     for _ in 0..4 {
         let order = some_order(dice);
-        agree::<_, Metres>(
-            rt,
-            heap,
-            &plant,
-            &mut listed,
-            &usable,
-            CostKind::Length,
-            Fit::First,
-            order,
-        )?;
-        agree::<_, Metres>(
-            rt,
-            heap,
-            &plant,
-            &mut listed,
-            &usable,
-            CostKind::Length,
-            Fit::Best,
-            order,
-        )?;
-        agree::<_, Loss>(
-            rt,
-            heap,
-            &plant,
-            &mut listed,
-            &usable,
-            CostKind::Worst,
-            Fit::First,
-            order,
-        )?;
-        agree::<_, Loss>(
-            rt,
-            heap,
-            &plant,
-            &mut listed,
-            &usable,
-            CostKind::Worst,
-            Fit::Best,
-            order,
-        )?;
+        case.agree::<Metres>(rt, heap, Fit::First, order)?;
+        case.agree::<Metres>(rt, heap, Fit::Best, order)?;
+        case.agree::<Loss>(rt, heap, Fit::First, order)?;
+        case.agree::<Loss>(rt, heap, Fit::Best, order)?;
     }
     Ok(())
 }
