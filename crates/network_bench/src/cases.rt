@@ -1,4 +1,3 @@
-use anyhow::anyhow;
 use network::link::Link;
 use network::network::Network;
 use std::alloc::{AllocError, Global};
@@ -16,24 +15,16 @@ pub struct Case {
 type Figures = (u32, u32, u32, u32);
 
 fn with_links(heap: Global, places: u32, links: &[Figures]) -> anyhow::Result<Network> {
-    let Ok(mut net) = Network::new(heap, places, 8) else {
-        return Err(anyhow!("no network"));
-    };
-    for l in links {
-        let Ok(link) = Link::new(l.0, l.1, l.2, l.3) else {
-            return Err(anyhow!("no link"));
-        };
-        if net.add(link).is_err() {
-            return Err(anyhow!("no room for a link"));
-        }
+    let mut net = Network::new(heap, places, 8)?;
+    for (one, two, metres, loss) in links {
+        net.add(Link::new(*one, *two, *metres, *loss)?)?;
     }
     Ok(net)
 }
 
 // Eight places in a ring, each joined to the next (links 1 to 8) and to the next but one (9 to 16), and three more places
 // at each of these (17 to 40).
-fn dense_link(i: u8) -> Figures {
-    let i = i as u32;
+fn dense_link(i: u32) -> Figures {
     let place = i % 8 + 1;
     match i / 8 {
         0 => (place, place % 8 + 1, 1000, 30),
@@ -42,30 +33,17 @@ fn dense_link(i: u8) -> Figures {
     }
 }
 
-fn dense_links(heap: Global) -> Result<Vec<Figures>, AllocError> {
-    let mut links = Vec::new(heap);
-    for i in 0..40u8 {
-        links.push(dense_link(i))?;
-    }
-    Ok(links)
-}
-
 // Each of 32 places with each other.
 fn all_pairs(heap: Global) -> Result<Vec<(u8, u8)>, AllocError> {
-    let mut pairs = Vec::new(heap);
-    for i in 0..1024u16 {
-        let from = (i / 32) as u8 + 1;
-        let to = (i % 32) as u8 + 1;
-        if from != to {
-            pairs.push((from, to))?;
-        }
-    }
-    Ok(pairs)
+    (0..1024u16)
+        .map(|i| ((i / 32) as u8 + 1, (i % 32) as u8 + 1))
+        .filter(|(from, to)| from != to)
+        .collect(heap)
 }
 
 // As many places and links as a network can have.
 pub fn dense(heap: Global) -> anyhow::Result<Case> {
-    let links = dense_links(heap)?;
+    let links: Vec<Figures> = (0..40).map(dense_link).collect(heap)?;
     Ok(Case {
         name: "dense network",
         net: with_links(heap, 32, &links)?,
@@ -74,18 +52,12 @@ pub fn dense(heap: Global) -> anyhow::Result<Case> {
     })
 }
 
-fn row_links(heap: Global) -> Result<Vec<Figures>, AllocError> {
-    let mut links = Vec::new(heap);
-    for i in 0..40u32 {
-        links.push((i / 5 + 1, i / 5 + 2, 7, 7))?;
-    }
-    Ok(links)
-}
-
 // Nine places in a row with five links between neighbours, all alike: 390,625 paths from end to end, and only their
 // numbers tell which is chosen.
 pub fn row(heap: Global) -> anyhow::Result<Case> {
-    let links = row_links(heap)?;
+    let links: Vec<Figures> = (0..40u32)
+        .map(|i| (i / 5 + 1, i / 5 + 2, 7, 7))
+        .collect(heap)?;
     Ok(Case {
         name: "hostile row",
         net: with_links(heap, 9, &links)?,

@@ -1,5 +1,4 @@
 use network::cost::Cost;
-use network::link::Link;
 use network::network::Network;
 use network::path::Path;
 
@@ -18,85 +17,56 @@ struct Walk<C> {
     touched: [bool; 33],
 }
 
-// The other end of a link, where v is one end.
-fn far_end(link: Link, v: u8) -> Option<u8> {
-    if link.one == v {
-        return Some(link.two);
-    }
-    if link.two == v {
-        return Some(link.one);
-    }
-    None
-}
-
-// The path with one more link.
-fn extended(path: Path, number: u8) -> Path {
-    let mut links = path.links;
-    if path.count < 8 {
-        links[path.count as usize] = number;
-    }
-    Path {
-        links,
-        count: path.count.saturating_add(1),
-    }
-}
-
 // Whether x is chosen rather than y. Two lists of one length are in dictionary order as their arrays are.
 fn comes_first<C: Cost>(x: Priced<C>, y: Priced<C>) -> bool {
     if !x.cost.at_most(y.cost) || !y.cost.at_most(x.cost) {
         return x.cost.at_most(y.cost);
     }
-    if x.path.count != y.path.count {
-        return x.path.count < y.path.count;
-    }
-    let one = x.path.links;
-    let two = y.path.links;
-    one < two
+    (x.path.count(), x.path.numbers()) < (y.path.count(), y.path.numbers())
 }
 
-fn lesser<C: Cost>(x: Option<Priced<C>>, y: Option<Priced<C>>) -> Option<Priced<C>> {
-    match (x, y) {
-        (Some(a), Some(b)) => Some(if comes_first(b, a) { b } else { a }),
-        (Some(_), None) => x,
-        (None, _) => y,
+fn lesser<C: Cost>(x: Option<Priced<C>>, y: Priced<C>) -> Priced<C> {
+    match x {
+        Some(best) => if comes_first(y, best) { y } else { best },
+        None => y,
     }
 }
 
-fn starting<C: Cost>(zero: C, from: u8) -> Walk<C> {
-    let mut touched = [false; 33];
-    if from < 33 {
-        touched[from as usize] = true;
+impl<C: Cost> Walk<C> {
+    fn starting(zero: C, from: u8) -> Walk<C> {
+        let mut touched = [false; 33];
+        if let Some(place) = touched.get_mut(usize::from(from)) {
+            *place = true;
+        }
+        let priced = Priced {
+            cost: zero,
+            path: Path::new(),
+        };
+        Walk {
+            priced,
+            at: from,
+            touched,
+        }
     }
-    let path = Path {
-        links: [0; 8],
-        count: 0,
-    };
-    let priced = Priced { cost: zero, path };
-    Walk {
-        priced,
-        at: from,
-        touched,
-    }
-}
 
-// The walk with one more link, where that leads on to a place not yet touched.
-fn further<C: Cost>(net: &Network, walk: Walk<C>, number: u8) -> Option<Walk<C>> {
-    let link = net.link(number)?;
-    let v = far_end(link, walk.at)?;
-    let mut touched = walk.touched;
-    if v > 32 || touched[v as usize] {
-        return None;
+    // The walk with one more link, where that leads on to a place not yet touched.
+    fn further(self, net: &Network, number: u8) -> Option<Walk<C>> {
+        let link = net.link(number)?;
+        let v = link.far_end(self.at)?;
+        let mut touched = self.touched;
+        if v > 32 || touched[usize::from(v)] {
+            return None;
+        }
+        touched[usize::from(v)] = true;
+        let mut path = self.priced.path;
+        path.push(number);
+        let cost = self.priced.cost.join(C::of_link(&link));
+        Some(Walk {
+            priced: Priced { cost, path },
+            at: v,
+            touched,
+        })
     }
-    touched[v as usize] = true;
-    let priced = Priced {
-        cost: walk.priced.cost.join(C::of_link(&link)),
-        path: extended(walk.priced.path, number),
-    };
-    Some(Walk {
-        priced,
-        at: v,
-        touched,
-    })
 }
 
 // The chosen one of all paths that begin with the walk and have at most `left` links more.
@@ -109,8 +79,10 @@ fn best_from<C: Cost>(net: &Network, walk: Walk<C>, to: u8, left: u8) -> Option<
     }
     let mut best = None;
     for number in 1..net.link_count().saturating_add(1) {
-        if let Some(longer) = further(net, walk, number) {
-            best = lesser(best, best_from(net, longer, to, left - 1));
+        if let Some(longer) = walk.further(net, number) {
+            if let Some(found) = best_from(net, longer, to, left - 1) {
+                best = Some(lesser(best, found));
+            }
         }
     }
     best
@@ -121,6 +93,5 @@ pub fn plain_path<C: Cost>(net: &Network, zero: C, from: u8, to: u8) -> Option<P
     if from == to {
         return None;
     }
-    let best = best_from(net, starting(zero, from), to, net.hops())?;
-    Some(best.path)
+    best_from(net, Walk::starting(zero, from), to, net.hops()).map(|best| best.path)
 }

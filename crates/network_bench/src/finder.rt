@@ -56,16 +56,14 @@ impl<C: Cost> Finder for OnMap<C> {
             first: 0,
             hours: 8,
         };
-        match find_way(
+        find_way(
             &self.map,
             net,
             &Usable::all(),
             &mut self.space,
             order,
             Fit::Best,
-        ) {
-            Some(way) => Some(way.path),
-            None => None,
-        }
+        )
+        .map(|way| way.path)
     }
 }

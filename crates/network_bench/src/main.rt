@@ -3,7 +3,6 @@
 mod cases;
 mod depth_first;
 mod finder;
-mod shown;
 mod tally;
 
 use anyhow::anyhow;
@@ -14,7 +13,6 @@ use network::cost::Cost;
 use network::loss::Loss;
 use network::metres::Metres;
 use network::search::Scratch;
-use shown::Shown;
 use std::alloc::Global;
 use std::env;
 use std::time::Instant;
@@ -29,10 +27,11 @@ fn show<F: Finder>(
     how: &str,
 ) -> anyhow::Result<()> {
     let name = case.name;
-    let path = Shown {
-        path: finder.find(&case.net, case.shown.0, case.shown.1),
-    };
-    println!(rt; "{name}, {cost}, {how}: {path}")?;
+    print!(rt; "{name}, {cost}, {how}: ")?;
+    match finder.find(&case.net, case.shown.0, case.shown.1) {
+        Some(path) => println!(rt; "links {path}")?,
+        None => println!(rt; "no path")?,
+    }
     Ok(())
 }
 
@@ -56,10 +55,8 @@ fn measure<F: Finder>(
 fn on_map<C: Cost>(heap: Global) -> anyhow::Result<OnMap<C>> {
     let words: Vec<u64> = vec![in heap; 0; 3840]?;
     let space = Space::new(heap)?;
-    match Map::new(words, 40, 16) {
-        Ok(map) => Ok(OnMap { map, space }),
-        Err(_) => Err(anyhow!("no map")),
-    }
+    let map = Map::new(words, 40, 16).map_err(|refused| refused.why)?;
+    Ok(OnMap { map, space })
 }
 
 // Measures the search for a way, and holds what it finds against the plain search.
@@ -80,7 +77,7 @@ fn compare_ways<C: Cost>(
         "way on a map",
         rounds.saturating_mul(more),
     )?;
-    if !found.is_rounds_of(tried, more) {
+    if found != tried.times(more) {
         return Err(anyhow!("the ways have other paths"));
     }
     Ok(())
@@ -103,7 +100,7 @@ fn compare<C: Cost>(
     let rounds = plain_rounds.saturating_mul(more);
     let found = measure(rt, case, cost, &mut table, "chosen path", rounds)?;
     let tried = measure(rt, case, cost, &mut plain, "depth first", plain_rounds)?;
-    if !found.is_rounds_of(tried, more) {
+    if found != tried.times(more) {
         return Err(anyhow!("the two searches found different paths"));
     }
     compare_ways::<C>(rt, case, cost, tried, plain_rounds, more / 50)

@@ -5,15 +5,16 @@ mod routes;
 mod steps;
 
 use examples::examples_stand;
-use piles::{office, rack};
-use routes::{office_routes, rack_routes, sample_network};
+use examples::sample::{sample_network, sample_plant};
+use piles::rack;
+use routes::{office_routes, rack_routes};
 use steps::{office_steps, rack_steps};
 
 fn tour_office(rt: &HostRuntime) -> anyhow::Result<()> {
     println!(rt;
         "Office: a map of 4 links and 2 channels; a window shuts link 2 from hour 20 for 4 hours."
     )?;
-    let mut plant = office(rt.alloc())?;
+    let mut plant = sample_plant(rt.alloc())?;
     office_steps(rt, &mut plant)?;
     let net = sample_network(rt.alloc())?;
     office_routes(rt, &plant, &net)

@@ -8,7 +8,8 @@ use Rattle.network.specs.Paths.{when_there}
 use Rattle.network.specs.declared.network.Network.{Network}
 use Rattle.network.proofs.Agrees.{chosen_agrees}
 use Rattle.ways.specs.Hours.{block_fits, block_free}
-use Rattle.ways.specs.Ways.{Named, Wanted, open_links, path_at, way_at, first_fit, best_fit, by_fit, cheaper}
+use Rattle.ways.specs.Ways.{Wanted, open_links, path_at, way_at, first_fit, best_fit, by_fit, cheaper}
+use Rattle.ways.specs.declared.way.Way.{Way}
 use Rattle.ways.specs.declared.fit.Fit.{Fit}
 use Rattle.ways.specs.declared.fit.Fit.TheVariants.{First, Best}
 use Rattle.ways.specs.declared.order.Order.{Order}
@@ -39,7 +40,7 @@ module _ {C : Type 0} (w : Wanted C) where
   unfolding first_fit
   first_next k e q = ap (first_fit w) (add-one k) ∙ ap (λ x. when_there x (way_at w (suc k)) (λ y. Some y)) e ∙ sym (q ∙ ap (way_at w) (add-one k))
 
-  pub first_found : (n k : ℕ) (x : Named) → k < n → first_fit w k ≡ None → Some x ≡ way_at w (k + 1) → Some x ≡ first_fit w n
+  pub first_found : (n k : ℕ) (x : Way) → k < n → first_fit w k ≡ None → Some x ≡ way_at w (k + 1) → Some x ≡ first_fit w n
   unfolding first_fit
   first_found zero k x h e q = absurd (omega (arith, h))
   first_found (suc n) k x h e q =
@@ -52,7 +53,7 @@ module _ {C : Type 0} (w : Wanted C) where
   unfolding best_fit
   best_none = refl
 
-  pub best_more : (k : ℕ) (b y r : Option Named) → b ≡ best_fit w k → y ≡ way_at w (k + 1) → r ≡ cheaper w.kind w.net b y → r ≡ best_fit w (k + 1)
+  pub best_more : (k : ℕ) (b y r : Option Way) → b ≡ best_fit w k → y ≡ way_at w (k + 1) → r ≡ cheaper w.kind w.net b y → r ≡ best_fit w (k + 1)
   unfolding best_fit
   best_more k b y r e q z =
       z ∙ ap (λ x. cheaper w.kind w.net x y) e ∙ ap (cheaper w.kind w.net (best_fit w k)) (q ∙ ap (way_at w) (add-one k)) ∙ sym (ap (best_fit w) (add-one k))

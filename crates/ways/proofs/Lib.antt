@@ -4,5 +4,5 @@ pub mod Totals
 pub mod Fits
 pub mod Routes
 pub mod Rightly
-pub mod Followed
 pub mod Copied
+pub mod Ranges

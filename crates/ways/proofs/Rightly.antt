@@ -7,7 +7,8 @@ use Rattle.network.specs.Paths.{when_there, crossing, price_of, ground, total, h
 use Rattle.network.specs.declared.network.Network.{Network}
 use Rattle.network.proofs.Finds.{chosen_stands}
 use Rattle.ways.specs.Hours.{hours_fit, block_fits, block_free}
-use Rattle.ways.specs.Ways.{Named, Wanted, every_link, open_links, way_at, first_fit, cheaper, best_fit, by_fit, chosen_way}
+use Rattle.ways.specs.Ways.{Wanted, every_link, open_links, way_at, first_fit, cheaper, best_fit, by_fit, chosen_way}
+use Rattle.ways.specs.declared.way.Way.{Way}
 use Rattle.ways.specs.Right.{AllowedWay, way_cost, SameBlock, Ahead, Cheaper, Right, WayIsRight}
 use Rattle.ways.specs.declared.fit.Fit.{Fit}
 use Rattle.ways.specs.declared.fit.Fit.TheVariants.{First, Best}
@@ -45,18 +46,18 @@ module _ {C : Type 0} (w : Wanted C) where
   free_of_block : (a : ℕ) (p : List ℕ) → AllowedOver (open_links w a) p → (l : ℕ) → has l p ≡ true → block_free w.free w.order a l ≡ true
   free_of_block a p h l k = (and_parts (w.may_use l) _ (links_free w.net (open_links w a) p w.order.from w.order.to h.arrives l k)).1
 
-  block_of_way : (y : Named) → AllowedWay w y → AllowedOver (open_links w y.channel) y.path
+  block_of_way : (y : Way) → AllowedWay w y → AllowedOver (open_links w y.channel) y.path
   block_of_way y h =
       path_kept w.net w.may_use (open_links w y.channel) w.net.hops w.order.from w.order.to y.path
       (λ l k. and_from _ _ (links_free w.net w.may_use y.path w.order.from w.order.to h.path.arrives l k) (h.free l k)) h.path
 
   -- what is known of the way from one first channel
-  abbrev At : ℕ → Option Named → Type 0
+  abbrev At : ℕ → Option Way → Type 0
   At a o =
-      MatchOption o ((y : Named) → AllowedWay w y → y.channel ≡ a → ⊥)
-      (λ x. (x.channel ≡ a) × AllowedWay w x × ((y : Named) → AllowedWay w y → y.channel ≡ a → SameBlock w x y))
+      MatchOption o ((y : Way) → AllowedWay w y → y.channel ≡ a → ⊥)
+      (λ x. (x.channel ≡ a) × AllowedWay w x × ((y : Way) → AllowedWay w y → y.channel ≡ a → SameBlock w x y))
 
-  named_from : ℕ → Option (List ℕ) → Option Named
+  named_from : ℕ → Option (List ℕ) → Option Way
   named_from a o = when_there o None (λ p. Some (record { channel = a; path = p }))
 
 module _ {C : Type 0} (w : Wanted C) (laws : Laws w.kind) (week : hours_fit w.order ≡ true) where
@@ -84,20 +85,20 @@ module _ {C : Type 0} (w : Wanted C) (laws : Laws w.kind) (week : hours_fit w.or
 
   -- ---- all first channels up to one
 
-  abbrev Upto : Fit → ℕ → Option Named → Type 0
+  abbrev Upto : Fit → ℕ → Option Way → Type 0
   Upto fit n o =
-      MatchOption o ((y : Named) → AllowedWay w y → y.channel ≤ n → ⊥)
-      (λ x. (x.channel ≤ n) × AllowedWay w x × ((y : Named) → AllowedWay w y → y.channel ≤ n → Ahead fit w x y))
+      MatchOption o ((y : Way) → AllowedWay w y → y.channel ≤ n → ⊥)
+      (λ x. (x.channel ≤ n) × AllowedWay w x × ((y : Way) → AllowedWay w y → y.channel ≤ n → Ahead fit w x y))
 
-  none_more : (n : ℕ) → ((y : Named) → AllowedWay w y → y.channel ≤ n → ⊥) → ((y : Named) → AllowedWay w y → y.channel ≡ suc n → ⊥) → (y : Named) → AllowedWay w y → y.channel ≤ suc n → ⊥
+  none_more : (n : ℕ) → ((y : Way) → AllowedWay w y → y.channel ≤ n → ⊥) → ((y : Way) → AllowedWay w y → y.channel ≡ suc n → ⊥) → (y : Way) → AllowedWay w y → y.channel ≤ suc n → ⊥
   none_more n below here y h l = elim (cases_eq y.channel (suc n)) [ inl e ↦ here y h e | inr e ↦ below y h (omega (arith, l, e)) ]
 
-  none_yet : (y : Named) → AllowedWay w y → y.channel ≤ 0 → ⊥
+  none_yet : (y : Way) → AllowedWay w y → y.channel ≤ 0 → ⊥
   none_yet y h l = omega (arith, l, (fits_parts w.channels y.channel w.order.width h.fits).0)
 
   -- ---- the lowest first channel
 
-  first_step : (n : ℕ) (o r : Option Named) → Upto First n o → At w (suc n) r → Upto First (suc n) (when_there o r (λ x. Some x))
+  first_step : (n : ℕ) (o r : Option Way) → Upto First n o → At w (suc n) r → Upto First (suc n) (when_there o r (λ x. Some x))
   first_step n None None u t = none_more n u t
   first_step n None (Some x) u t = (
     omega (arith, t.0),
@@ -130,24 +131,24 @@ module _ {C : Type 0} (w : Wanted C) (laws : Laws w.kind) (week : hours_fit w.or
   itself x = elim (cases_Bool (at_most x x)) [ inl e ↦ e | inr e ↦ laws.total x x e ]
 
   -- at one first channel the chosen path is the cheapest
-  here_ahead : (n : ℕ) (x y : Named) → x.channel ≡ n → y.channel ≡ n → SameBlock w x y → Cheaper w x y
+  here_ahead : (n : ℕ) (x y : Way) → x.channel ≡ n → y.channel ≡ n → SameBlock w x y → Cheaper w x y
   here_ahead n x y e f s = record { cheap = (s (e ∙ sym f)).cheap; low = λ _. omega (arith, e, f); chosen = s }
 
-  new_ahead : (n : ℕ) (x z y : Named) → x.channel ≤ n → at_most (way_cost w x) (way_cost w z) ≡ false → Cheaper w x y → y.channel ≤ n → z.channel ≡ suc n → Cheaper w z y
+  new_ahead : (n : ℕ) (x z y : Way) → x.channel ≤ n → at_most (way_cost w x) (way_cost w z) ≡ false → Cheaper w x y → y.channel ≤ n → z.channel ≡ suc n → Cheaper w z y
   new_ahead n x z y l dear c m e = record {
     cheap = laws.trans _ _ _ (laws.total _ _ dear) c.cheap;
     low = λ s. absurd (both_ways _ dear (ap (at_most (way_cost w x)) s ∙ c.cheap));
     chosen = λ s. absurd (omega (arith, m, e, s));
   }
 
-  old_ahead : (n : ℕ) (x z y : Named) → x.channel ≤ n → at_most (way_cost w x) (way_cost w z) ≡ true → Cheaper w z y → y.channel ≡ suc n → Cheaper w x y
+  old_ahead : (n : ℕ) (x z y : Way) → x.channel ≤ n → at_most (way_cost w x) (way_cost w z) ≡ true → Cheaper w z y → y.channel ≡ suc n → Cheaper w x y
   old_ahead n x z y l cheap c e = record {
     cheap = laws.trans _ _ _ cheap c.cheap;
     low = λ s. omega (arith, l, e);
     chosen = λ s. absurd (omega (arith, l, e, s));
   }
 
-  best_two : (n : ℕ) (x z : Named) → Upto Best n (Some x) → At w (suc n) (Some z) → (b : Bool) → at_most (way_cost w x) (way_cost w z) ≡ b → Upto Best (suc n) (cond b (Some x) (Some z))
+  best_two : (n : ℕ) (x z : Way) → Upto Best n (Some x) → At w (suc n) (Some z) → (b : Bool) → at_most (way_cost w x) (way_cost w z) ≡ b → Upto Best (suc n) (cond b (Some x) (Some z))
   best_two n x z u t true e = (
     omega (arith, u.0),
     u.1,
@@ -165,7 +166,7 @@ module _ {C : Type 0} (w : Wanted C) (laws : Laws w.kind) (week : hours_fit w.or
     ],
   )
 
-  best_step : (n : ℕ) (o r : Option Named) → Upto Best n o → At w (suc n) r → Upto Best (suc n) (cheaper w.kind w.net o r)
+  best_step : (n : ℕ) (o r : Option Way) → Upto Best n o → At w (suc n) r → Upto Best (suc n) (cheaper w.kind w.net o r)
   best_step n None None u t = none_more n u t
   best_step n None (Some x) u t = (
     omega (arith, t.0),
@@ -192,7 +193,7 @@ module _ {C : Type 0} (w : Wanted C) (laws : Laws w.kind) (week : hours_fit w.or
 
   -- ---- all first channels
 
-  upto_all : (fit : Fit) (o : Option Named) → Upto fit w.channels o → Right fit w o
+  upto_all : (fit : Fit) (o : Option Way) → Upto fit w.channels o → Right fit w o
   upto_all fit None u = λ y h. u y h h.known
   upto_all fit (Some x) u = record { allowed = u.1; ahead = λ y h. u.2 y h h.known }
 
@@ -212,15 +213,15 @@ module _ {C : Type 0} (w : Wanted C) (laws : Laws w.kind) (fit : Fit) where
       ]
 
   -- a way that an order gets is allowed
-  pub way_found : (x : Named) → chosen_way fit w ≡ Some x → AllowedWay w x
+  pub way_found : (x : Way) → chosen_way fit w ≡ Some x → AllowedWay w x
   way_found x e = let r : Right fit w (Some x) = subst (Right fit w) e way_right in r.allowed
 
   -- and ahead of every allowed way
-  pub way_ahead : (x : Named) → chosen_way fit w ≡ Some x → (y : Named) → AllowedWay w y → Ahead fit w x y
+  pub way_ahead : (x : Way) → chosen_way fit w ≡ Some x → (y : Way) → AllowedWay w y → Ahead fit w x y
   way_ahead x e = let r : Right fit w (Some x) = subst (Right fit w) e way_right in r.ahead
 
   -- an order gets no way only where none is allowed
-  pub way_none : chosen_way fit w ≡ None → (x : Named) → AllowedWay w x → ⊥
+  pub way_none : chosen_way fit w ≡ None → (x : Way) → AllowedWay w x → ⊥
   way_none e = let r : Right fit w None = subst (Right fit w) e way_right in r
 
 -- a block of at least one channel that fits starts at one of the channels

@@ -24,11 +24,11 @@ block_free free o a l = not (any o.width (λ k. not (free l (a + k))))
 abbrev pub cell_at : List Bool → ℕ → ℕ → Bool
 cell_at xs l c = slice_index_or xs (l * 17 + c) false
 
--- the table has what f tells for the channels 1 to n - 1 of link l, and for every other link what it had
-pub record RowAsked (f : ℕ → ℕ → Bool) (old new : List Bool) (l n : ℕ) : Type 0 where
-  pub told : (c : ℕ) → 1 ≤ c → c < n → cell_at new l c ≡ f l c
+-- the table has what was told of the channels 1 to n - 1 of link l, and for every other link what it had
+pub record LinkTold (P : ℕ → ℕ → Bool → Type 0) (old new : List Bool) (l n : ℕ) : Type 0 where
+  pub told : (c : ℕ) → 1 ≤ c → c < n → P l c (cell_at new l c)
   pub kept : (k c : ℕ) → (k ≢ l) → c < 17 → cell_at new k c ≡ cell_at old k c
 
--- the table has what f tells for the channels 1 to n - 1 of the links 1 to k - 1
-abbrev pub Asked : (ℕ → ℕ → Bool) → List Bool → ℕ → ℕ → Type 0
-Asked f xs k n = (l c : ℕ) → 1 ≤ l → l < k → 1 ≤ c → c < n → cell_at xs l c ≡ f l c
+-- the table has what was told of the channels 1 to n - 1 of the links 1 to k - 1
+abbrev pub Told : (ℕ → ℕ → Bool → Type 0) → List Bool → ℕ → ℕ → Type 0
+Told P xs k n = (l c : ℕ) → 1 ≤ l → l < k → 1 ≤ c → c < n → P l c (cell_at xs l c)

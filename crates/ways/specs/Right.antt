@@ -11,11 +11,12 @@ use Rattle.network.specs.Choice.{Before}
 use Rattle.network.specs.Costs.{Kind}
 use Rattle.network.specs.Paths.{crossing, ground, has, Allowed}
 use Rattle.ways.specs.Hours.{hours_fit, block_fits, block_free}
-use Rattle.ways.specs.Ways.{Named, Wanted, every_link, path_cost, chosen_way}
+use Rattle.ways.specs.Ways.{Wanted, every_link, path_cost, chosen_way}
 use Rattle.ways.specs.declared.fit.Fit.{Fit}
+use Rattle.ways.specs.declared.way.Way.{Way}
 use Rattle.ways.specs.declared.fit.Fit.TheVariants.{First, Best}
 
-pub record AllowedWay {C : Type 0} (w : Wanted C) (x : Named) : Type 0 where
+pub record AllowedWay {C : Type 0} (w : Wanted C) (x : Way) : Type 0 where
   pub week : hours_fit w.order ≡ true
   -- the block starts at one of the channels, and ends at one
   pub known : x.channel ≤ w.channels
@@ -24,34 +25,34 @@ pub record AllowedWay {C : Type 0} (w : Wanted C) (x : Named) : Type 0 where
   pub free : (l : ℕ) → has l x.path ≡ true → block_free w.free w.order x.channel l ≡ true
 
 -- the cost of a way is that of its path
-abbrev pub way_cost : {C : Type 0} → Wanted C → Named → C
+abbrev pub way_cost : {C : Type 0} → Wanted C → Way → C
 way_cost w x = path_cost w.kind w.net x.path
 
 -- at one first channel, the path of x is chosen rather than that of y
-abbrev pub SameBlock : {C : Type 0} → Wanted C → Named → Named → Type 0
+abbrev pub SameBlock : {C : Type 0} → Wanted C → Way → Way → Type 0
 SameBlock w x y = x.channel ≡ y.channel → Before (ground w.kind w.net every_link) x.path y.path
 
 -- no lower first channel
-pub record Lower {C : Type 0} (w : Wanted C) (x y : Named) : Type 0 where
+pub record Lower {C : Type 0} (w : Wanted C) (x y : Way) : Type 0 where
   pub low : x.channel ≤ y.channel
   pub chosen : SameBlock w x y
 
 -- nothing cheaper, and no lower first channel at the same cost
-pub record Cheaper {C : Type 0} (w : Wanted C) (x y : Named) : Type 0 where
+pub record Cheaper {C : Type 0} (w : Wanted C) (x y : Way) : Type 0 where
   pub cheap : w.kind.at_most (way_cost w x) (way_cost w y) ≡ true
   pub low : way_cost w x ≡ way_cost w y → x.channel ≤ y.channel
   pub chosen : SameBlock w x y
 
-abbrev pub Ahead : {C : Type 0} → Fit → Wanted C → Named → Named → Type 0
+abbrev pub Ahead : {C : Type 0} → Fit → Wanted C → Way → Way → Type 0
 Ahead First w x y = Lower w x y
 Ahead Best w x y = Cheaper w x y
 
-pub record ChosenWay {C : Type 0} (fit : Fit) (w : Wanted C) (x : Named) : Type 0 where
+pub record ChosenWay {C : Type 0} (fit : Fit) (w : Wanted C) (x : Way) : Type 0 where
   pub allowed : AllowedWay w x
-  pub ahead : (y : Named) → AllowedWay w y → Ahead fit w x y
+  pub ahead : (y : Way) → AllowedWay w y → Ahead fit w x y
 
-abbrev pub Right : {C : Type 0} → Fit → Wanted C → Option Named → Type 0
-Right fit w o = MatchOption o ((x : Named) → AllowedWay w x → ⊥) (ChosenWay fit w)
+abbrev pub Right : {C : Type 0} → Fit → Wanted C → Option Way → Type 0
+Right fit w o = MatchOption o ((x : Way) → AllowedWay w x → ⊥) (ChosenWay fit w)
 
 abbrev pub WayIsRight : {C : Type 0} → Kind C → Type 0
 WayIsRight {C} k = (fit : Fit) (w : Wanted C) → w.kind ≡ k → Right fit w (chosen_way fit w)

@@ -1,8 +1,6 @@
 -- Which way an order gets.
 --
 --   every_link l         true: every link may be used
---   Named                a way as the rules speak of it: a first channel and a list of link numbers
---   FormedWay w          the path of w is a list of eight numbers, with zeros after the last that is in use
 --   Wanted C             what is searched for, and where: a cost kind, a network, the links that may be used, the
 --                        channels that are free on a link, how many channels there are, and the order
 --   wanted k net may m o what is wanted where the plant means m: a channel is free that is not taken in the order's hours
@@ -13,7 +11,7 @@
 use Rattle.std.specs.Prelude.{ℕ, zero, suc, Bool, true, cond, ◌&&◌, List, Some, None, Option}
 use Rattle.calendar.specs.Meaning.{Meaning, taken}
 use Rattle.network.specs.Costs.{Kind}
-use Rattle.network.specs.Paths.{when_there, ground, total, path_numbers, Formed}
+use Rattle.network.specs.Paths.{when_there, ground, total}
 use Rattle.network.specs.Choice.{chosen_path}
 use Rattle.network.specs.declared.network.Network.{Network}
 use Rattle.ways.specs.Hours.{hours_fit, block_fits, run_free, block_free, cell_at}
@@ -25,16 +23,6 @@ use Rattle.ways.specs.declared.fit.Fit.TheVariants.{First, Best}
 -- every link may be used
 abbrev pub every_link : ℕ → Bool
 every_link l = true
-
-pub record Named : Type 0 where
-  pub channel : ℕ
-  pub path : List ℕ
-
-abbrev pub named : Way → Named
-named w = record { channel = w.channel; path = path_numbers w.path }
-
-abbrev pub FormedWay : Way → Type 0
-FormedWay w = Formed w.path
 
 pub record Wanted (C : Type 0) : Type 0 where
   pub kind : Kind C
@@ -61,10 +49,10 @@ path_at w a =
     (chosen_path w.kind w.net (open_links w a) w.order.from w.order.to)
     None
 
-abbrev pub way_at : {C : Type 0} → Wanted C → ℕ → Option Named
+abbrev pub way_at : {C : Type 0} → Wanted C → ℕ → Option Way
 way_at w a = when_there (path_at w a) None (λ p. Some (record { channel = a; path = p }))
 
-unfoldable pub first_fit : {C : Type 0} → Wanted C → ℕ → Option Named
+unfoldable pub first_fit : {C : Type 0} → Wanted C → ℕ → Option Way
 first_fit w zero = None
 first_fit w (suc n) = when_there (first_fit w n) (way_at w (suc n)) (λ x. Some x)
 
@@ -73,18 +61,18 @@ abbrev pub path_cost : {C : Type 0} → Kind C → Network → List ℕ → C
 path_cost k net p = total (ground k net (λ _. true)) p
 
 -- the first way, unless the second is cheaper
-abbrev pub cheaper : {C : Type 0} → Kind C → Network → Option Named → Option Named → Option Named
+abbrev pub cheaper : {C : Type 0} → Kind C → Network → Option Way → Option Way → Option Way
 cheaper k net None y = y
 cheaper k net (Some x) None = Some x
 cheaper k net (Some x) (Some y) = cond (k.at_most (path_cost k net x.path) (path_cost k net y.path)) (Some x) (Some y)
 
-unfoldable pub best_fit : {C : Type 0} → Wanted C → ℕ → Option Named
+unfoldable pub best_fit : {C : Type 0} → Wanted C → ℕ → Option Way
 best_fit w zero = None
 best_fit w (suc n) = cheaper w.kind w.net (best_fit w n) (way_at w (suc n))
 
-abbrev pub by_fit : {C : Type 0} → Fit → Wanted C → Option Named
+abbrev pub by_fit : {C : Type 0} → Fit → Wanted C → Option Way
 by_fit First w = first_fit w w.channels
 by_fit Best w = best_fit w w.channels
 
-abbrev pub chosen_way : {C : Type 0} → Fit → Wanted C → Option Named
+abbrev pub chosen_way : {C : Type 0} → Fit → Wanted C → Option Way
 chosen_way fit w = cond (hours_fit w.order) (by_fit fit w) None

@@ -1,13 +1,12 @@
-ghost use Rattle.std.specs.Prelude.{◌≡◌, ◌≤◌, length, IfSome};
-ghost use Rattle.std.specs.Option.{option_map};
+ghost use Rattle.std.specs.Prelude.{◌≡◌};
 ghost use Rattle.network.specs.Flags.{may_use};
-ghost use Rattle.ways.specs.Hours.{hours_fit};
-ghost use Rattle.ways.specs.Ways.{named, FormedWay, noted, wanted, by_fit, chosen_way};
+ghost use Rattle.ways.specs.Sought.{sought};
+ghost use Rattle.ways.specs.Ways.{wanted, by_fit, chosen_way};
 
 use crate::fit::Fit;
-use crate::open_cells::ask_links;
+use crate::free_channels::{FreeChannels, is_free};
 use crate::order::Order;
-use crate::search::{best_fit, first_fit};
+use crate::search::Search;
 use crate::space::Space;
 use crate::way::Way;
 use network::cost::Cost;
@@ -20,39 +19,20 @@ use std::alloc::{AllocError, Global};
 impl<C: Copy> Space<C> {
     // Reserves all the memory that searches will need.
     pub fn new(heap: Global) -> Result<Space<C>, AllocError> {
-        let rows = Scratch::new(heap)?;
-        let mut cells = Vec::with_capacity(heap, 697)?;
-        for i in 0..697usize {
-            cells.push_reserved(false);
-        }
-        Ok(Space { rows, cells })
+        Ok(Space {
+            rows: Scratch::new(heap)?,
+            free: FreeChannels::new(heap)?,
+        })
     }
 }
 
-// Whether the order's hours are hours of the week.
-fn hours_fit(order: Order) -> bool
-    ensures { result ≡ hours_fit order }
-{
-    (order.first < 168) & ((1 <= order.hours) & (order.hours <= 168))
-}
-
-// The way by the table of free channels.
-fn noted_way<C: Cost>(
-    net: &Network,
-    usable: &Usable,
-    cells: &[bool],
-    rows: &mut Scratch<C>,
-    order: Order,
-    channels: u8,
-    fit: Fit,
-) -> Option<Way>
-    requires { (length cells.now ≡ 697) × (channels ≤ 16) }
-    ensures way { option_map named result ≡ by_fit fit (noted C.kind net.now (may_use usable.now) cells.now channels order) }
-    ensures formed { IfSome result FormedWay }
+// The way that the order gets by what was noted of the channels.
+fn way_by<C: Cost>(search: &Search<'_>, rows: &mut Scratch<C>, fit: Fit) -> Option<Way>
+    ensures { result ≡ by_fit fit (sought C.kind search.now) }
 {
     match fit {
-        Fit::First => first_fit(net, usable, cells, rows, order, channels),
-        Fit::Best => best_fit(net, usable, cells, rows, order, channels),
+        Fit::First => search.first_fit(rows),
+        Fit::Best => search.best_fit(rows),
     }
 }
 
@@ -66,21 +46,22 @@ pub fn find_way<P: Plant, C: Cost>(
     order: Order,
     fit: Fit,
 ) -> Option<Way>
-    ensures way { option_map named result ≡ chosen_way fit (wanted C.kind net.now (may_use usable.now) (P.meaning plant.now) order) }
-    ensures formed { IfSome result FormedWay }
+    ensures { result ≡ chosen_way fit (wanted C.kind net.now (may_use usable.now) (P.meaning plant.now) order) }
 {
-    if !hours_fit(order) {
+    if !order.hours_fit() {
         return None;
     }
     let channels = plant.size().channels;
-    ask_links(plant, &mut space.cells, order, channels, net.link_count());
-    noted_way(
+    space.free.note(
+        net.link_count(),
+        channels,
+        |link, channel| is_free(plant, order, link, channel),
+    );
+    let search = Search {
         net,
         usable,
-        &space.cells,
-        &mut space.rows,
+        free: &space.free,
         order,
-        channels,
-        fit,
-    )
+    };
+    way_by(&search, &mut space.rows, fit)
 }

@@ -1,5 +1,5 @@
 // How the first channel is chosen.
-#[derive(Clone, Copy)]
+#[derive(Clone, Copy, Debug, PartialEq, Eq)]
 pub enum Fit {
     First,
     Best,

@@ -1,14 +1,14 @@
 #![tactic(auto)]
 
-pub mod blocks;
+mod block;
 pub mod costs;
 pub mod find;
 pub mod fit;
 pub mod follow;
-pub mod open_cells;
+mod free_channels;
 pub mod order;
 pub mod right;
 pub mod route;
-pub mod search;
+mod search;
 pub mod space;
 pub mod way;

@@ -1,11 +1,12 @@
-ghost use Rattle.std.specs.Prelude.{◌≡◌, ◌≤◌, length, IfSome};
-ghost use Rattle.std.specs.Option.{option_map};
+ghost use Rattle.std.specs.Prelude.{◌≡◌, ℕ, ◌≤◌, ◌&&◌, vec_len};
 ghost use Rattle.network.specs.Flags.{may_use};
-ghost use Rattle.network.specs.Paths.{path_numbers, Formed};
-ghost use Rattle.ways.specs.Ways.{named, FormedWay, noted, path_at, way_at, first_fit, best_fit, cheaper};
+ghost use Rattle.ways.specs.Hours.{block_free, cell_at};
+ghost use Rattle.ways.specs.Sought.{sought};
+ghost use Rattle.ways.specs.Ways.{path_at, way_at, first_fit, best_fit, cheaper};
 
-use crate::blocks::{block_fits, open_links};
+use crate::block::block_fits;
 use crate::costs::path_cost;
+use crate::free_channels::FreeChannels;
 use crate::order::Order;
 use crate::way::Way;
 use network::cost::Cost;
@@ -14,78 +15,24 @@ use network::path::Path;
 use network::search::{Scratch, chosen_path};
 use network::usable::Usable;
 
-// The chosen path of the order's block from channel a up, over the links on which it is free.
-fn path_at<C: Cost>(
-    net: &Network,
-    usable: &Usable,
-    cells: &[bool],
-    rows: &mut Scratch<C>,
-    order: Order,
-    channels: u8,
-    a: u8,
-) -> Option<Path>
-    requires { (length cells.now ≡ 697) × (channels ≤ 16) }
-    ensures numbers { option_map path_numbers result ≡ path_at (noted C.kind net.now (may_use usable.now) cells.now channels order) a }
-    ensures formed { IfSome result Formed }
-{
-    if !block_fits(channels, a, order.width) {
-        return None;
-    }
-    let open = open_links(cells, usable, order, a, net.link_count());
-    chosen_path(net, &open, rows, order.from, order.to)
-}
-
-// The way of the order's block from channel a up.
-fn way_at<C: Cost>(
-    net: &Network,
-    usable: &Usable,
-    cells: &[bool],
-    rows: &mut Scratch<C>,
-    order: Order,
-    channels: u8,
-    a: u8,
-) -> Option<Way>
-    requires { (length cells.now ≡ 697) × (channels ≤ 16) }
-    ensures way { option_map named result ≡ way_at (noted C.kind net.now (may_use usable.now) cells.now channels order) a }
-    ensures formed { IfSome result FormedWay }
-{
-    match path_at(net, usable, cells, rows, order, channels, a) {
-        Some(path) => Some(Way { channel: a, path }),
-        None => None,
-    }
-}
-
-// The way with the lowest first channel that has a path.
-pub(crate) fn first_fit<C: Cost>(
-    net: &Network,
-    usable: &Usable,
-    cells: &[bool],
-    rows: &mut Scratch<C>,
-    order: Order,
-    channels: u8,
-) -> Option<Way>
-    requires { (length cells.now ≡ 697) × (channels ≤ 16) }
-    ensures way { option_map named result ≡ first_fit (noted C.kind net.now (may_use usable.now) cells.now channels order) channels }
-    ensures formed { IfSome result FormedWay }
-{
-    for k in 0..channels {
-        if let Some(way) = way_at(net, usable, cells, rows, order, channels, k + 1) {
-            return Some(way);
-        }
-    }
-    None
+// What is searched: the order's way over these links, of which these channels were free.
+#[derive(Clone, Copy)]
+pub(crate) struct Search<'a> {
+    pub(crate) net: &'a Network,
+    pub(crate) usable: &'a Usable,
+    pub(crate) free: &'a FreeChannels,
+    pub(crate) order: Order,
 }
 
 // The first way, unless the second is cheaper.
 fn cheaper_way<C: Cost>(net: &Network, best: Option<Way>, next: Option<Way>) -> Option<Way>
-    ensures way { option_map named result ≡ cheaper C.Cost.kind net.now (option_map named best) (option_map named next) }
-    ensures formed { IfSome best FormedWay → IfSome next FormedWay → IfSome result FormedWay }
+    ensures { result ≡ cheaper C.kind net.now best next }
 {
     match (best, next) {
         (None, _) => next,
         (Some(_), None) => best,
         (Some(x), Some(y)) => {
-            if path_cost::<C>(net, x.path).at_most(path_cost::<C>(net, y.path)) {
+            if path_cost::<C>(net, x.path.links()).at_most(path_cost::<C>(net, y.path.links())) {
                 best
             } else {
                 next
@@ -94,23 +41,59 @@ fn cheaper_way<C: Cost>(net: &Network, best: Option<Way>, next: Option<Way>) -> 
     }
 }
 
-// The way with the cheapest chosen path; on a tie the one with the lowest first channel.
-pub(crate) fn best_fit<C: Cost>(
-    net: &Network,
-    usable: &Usable,
-    cells: &[bool],
-    rows: &mut Scratch<C>,
-    order: Order,
-    channels: u8,
-) -> Option<Way>
-    requires { (length cells.now ≡ 697) × (channels ≤ 16) }
-    ensures way { option_map named result ≡ best_fit (noted C.kind net.now (may_use usable.now) cells.now channels order) channels }
-    ensures formed { IfSome result FormedWay }
-{
-    let mut best = None;
-    for k in 0..channels {
-        let next = way_at(net, usable, cells, rows, order, channels, k + 1);
-        best = cheaper_way::<C>(net, best, next);
+impl Search<'_> {
+    // The links that may be used and on which the order's block from channel a up is free.
+    fn open_links(&self, a: u8) -> Usable
+        ensures { (i : ℕ) → 1 ≤ i → i ≤ vec_len self.now.net.now.links → may_use result i ≡ (may_use self.now.usable.now i && block_free (cell_at self.now.free.now.cells.items) self.now.order a i) }
+    {
+        let mut open = Usable::none();
+        for link in 1..self.net.link_count() + 1 {
+            open.set(
+                link,
+                self.usable.is_usable(link) && self.free.has_block(self.order, a, link),
+            );
+        }
+        open
     }
-    best
+
+    // The chosen path of the order's block from channel a up, over the links on which it is free.
+    fn path_at<C: Cost>(&self, rows: &mut Scratch<C>, a: u8) -> Option<Path>
+        ensures { result ≡ path_at (sought C.kind self.now) a }
+    {
+        if !block_fits(self.free.channels, a, self.order.width) {
+            return None;
+        }
+        let open = self.open_links(a);
+        chosen_path(self.net, &open, rows, self.order.from, self.order.to)
+    }
+
+    // The way of the order's block from channel a up.
+    fn way_at<C: Cost>(&self, rows: &mut Scratch<C>, a: u8) -> Option<Way>
+        ensures { result ≡ way_at (sought C.kind self.now) a }
+    {
+        self.path_at(rows, a).map(|path| Way { channel: a, path })
+    }
+
+    // The way with the lowest first channel that has a path.
+    pub(crate) fn first_fit<C: Cost>(&self, rows: &mut Scratch<C>) -> Option<Way>
+        ensures { result ≡ first_fit (sought C.kind self.now) self.now.free.now.channels }
+    {
+        for k in 0..self.free.channels {
+            if let Some(way) = self.way_at(rows, k + 1) {
+                return Some(way);
+            }
+        }
+        None
+    }
+
+    // The way with the cheapest chosen path; on a tie the one with the lowest first channel.
+    pub(crate) fn best_fit<C: Cost>(&self, rows: &mut Scratch<C>) -> Option<Way>
+        ensures { result ≡ best_fit (sought C.kind self.now) self.now.free.now.channels }
+    {
+        let mut best = None;
+        for k in 0..self.free.channels {
+            best = cheaper_way::<C>(self.net, best, self.way_at(rows, k + 1));
+        }
+        best
+    }
 }

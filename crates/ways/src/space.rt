@@ -1,5 +1,4 @@
-ghost use Rattle.std.specs.Prelude.{◌≡◌, vec_len};
-
+use crate::free_channels::FreeChannels;
 use network::search::Scratch;
 
 // Memory for a search, reserved once: the rows of the path search, and for each link and channel whether it is free.
@@ -7,6 +6,5 @@ use network::search::Scratch;
 #[derive(Drop)]
 pub struct Space<C> {
     pub(crate) rows: Scratch<C>,
-    pub(crate) cells: Vec<bool>,
-    ghost full: { vec_len cells ≡ 697 },
+    pub(crate) free: FreeChannels,
 }

@@ -1,4 +1,4 @@
-use Rattle.std.proofs.Common.{◌≡◌, Bool, List, vec_items, sym, refl, ap, ◌∙◌, arith}
+use Rattle.std.proofs.Common.{◌≡◌, ℕ, ◌≤◌, vec_len, sym, refl, ap, ◌∙◌, arith, rules}
 use Rattle.std.proofs.lemmas.Bool.{cond-true}
 use Rattle.calendar.specs.Meaning.{taken}
 use Rattle.network.specs.Flags.{may_use}
@@ -14,14 +14,12 @@ returns g c =
     let net = c.args.net.now in
     let may = may_use c.args.usable.now in
     let o = c.args.order in
-    let xs : List Bool = vec_items c.ask_links.new.cells in
+    let xs = c.note.new.self.cells.items in
     let cs : c.size-channels.result.channels ≡ m.channels = ap (λ s. s.channels) c.size-channels.ensures in
     let links = c.link_count.ensures in
-    record {
-      way = c.noted_way.ensures.way
-          ∙ ap (λ ys. by_fit c.args.fit (noted k net may ys c.size-channels.result.channels o)) c.deref.ensures.value
-          ∙ ap (λ n. by_fit c.args.fit (noted k net may xs n o)) cs
-          ∙ fit_same k net m.channels o may may (cell_at xs) (run_free (taken m) o) (λ _ _ _. refl) (λ l ch a b p q. c.ask_links.ensures.asked l ch a (omega (arith, b, links)) p (omega (arith, q, cs))) c.args.fit
-          ∙ sym (cond-true (hours_fit o) _ _ (sym c.if-not-hours_fit.ensures));
-      formed = c.noted_way.ensures.formed;
-    }
+    let free : (l ch : ℕ) → 1 ≤ l → l ≤ vec_len net.links → 1 ≤ ch → ch ≤ m.channels → cell_at xs l ch ≡ run_free (taken m) o l ch
+    = λ l ch a b p q. (let t = c.note.ensures.told l ch a (omega (arith, b, links)) p (omega (arith, q, cs)) in search rules) in
+    c.way_by.ensures
+    ∙ ap (λ n. by_fit c.args.fit (noted k net may xs n o)) (c.note.ensures.channels ∙ cs)
+    ∙ fit_same k net m.channels o may may (cell_at xs) (run_free (taken m) o) (λ _ _ _. refl) free c.args.fit
+    ∙ sym (cond-true (hours_fit o) _ _ (sym c.if-not-hours_fit.ensures))

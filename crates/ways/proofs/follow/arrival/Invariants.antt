@@ -1,7 +1,7 @@
 use Rattle.std.proofs.Common.{◌≡◌, drop}
-use Rattle.network.specs.Paths.{crossing, leads, path_numbers}
+use Rattle.network.specs.Paths.{crossing, leads}
 use Rattle.ways.specs.Ways.{every_link}
 use Rattle.ways.proofs.follow.arrival.Given as goal
 
-abbrev pub invariant-loop-i : goal.invariant-loop-i
-invariant-loop-i l = leads (crossing l.net every_link) l.v (drop l.i (path_numbers l.path)) ≡ leads (crossing l.net every_link) l.from (path_numbers l.path)
+abbrev pub invariant-loop-number : goal.invariant-loop-number
+invariant-loop-number l = leads (crossing l.net every_link) l.v (drop l.number-index l.links) ≡ leads (crossing l.net every_link) l.fn.from l.links

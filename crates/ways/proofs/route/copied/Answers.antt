@@ -1,22 +1,25 @@
-use Rattle.std.proofs.Common.{length, sym, refl, subst, arith, ltb-false, ltb-true}
-use Rattle.ways.proofs.Copied.{CopiedTo, too_many, too_few, too_large, copied_more, copied_all}
+use Rattle.std.proofs.Common.{◌≡◌, ◌-◌, ◌<◌, false, length, get_or, Ok, Err, Result, is_ok, ap, ◌∙◌, ⊎_elim, arith}
+use Rattle.std.specs.Result.{OkIff}
+use Rattle.std.proofs.lemmas.List.{get_or-take}
+use Rattle.ways.proofs.Copied.{too_few, too_large}
 use Rattle.ways.proofs.route.copied.Goals as goal
 
-pub returns-then-route-gt8 : goal.returns-then-route-gt8
-returns-then-route-gt8 c net from to = too_many net from to c.args.route c.if-route-gt8.true
+refuted : {T E : Type 0} (r : Result T E) (P : Type 0) (v : T) → OkIff r P v → false ≡ is_ok r → P → ⊥
+refuted (Ok x) P v h e p = absurd (cc)
+refuted (Err x) P v h e p = h p
 
-pub returns-in_default : goal.returns-in_default
-returns-in_default c net from to =
-    too_few net from to c.args.route c.loop-i.i (ltb-false c.loop-i.i (length c.args.route.links) (sym c.in_default.ensures.lookup.0)) c.loop-i-test.true
+pub returns-in_err-numbers : goal.returns-in_err-numbers
+returns-in_err-numbers c =
+    let r = c.args.route in
+    rw c.from_residual.ensures (λ net from to. too_few net from to r (length r.links) (omega arith) (⊎_elim (λ h. omega (arith, h)) (λ h. h) c.in_err-numbers.ensures.lookup.0))
 
-pub returns-then-number-gt255 : goal.returns-then-number-gt255
-returns-then-number-gt255 c net from to =
-    too_large net from to c.args.route c.loop-i.i c.in-Some.number.now c.loop-i-test.true (c.in-Some.ensures.lookup.3.1 0) c.if-number-gt255.true
-
-pub loop-i-preserved : goal.loop-i-preserved
-loop-i-preserved c =
-    let f = c.in-Some.ensures.lookup in
-    copied_more c.args.route.links c.loop-i.links c.loop-i.i c.in-Some.number.now (omega (arith, c.loop-i-test.true, c.if-route-gt8.false)) (ltb-true c.loop-i.i (length c.args.route.links) (sym f.0)) (f.3.1 0) c.loop-i.invariant
-
-pub returns : goal.returns
-returns c = copied_all c.args.route _ refl c.if-route-gt8.false (subst (CopiedTo c.args.route.links c.loop-i.links) (omega (arith, c.loop-i-test.false, c.loop-i.auto.i-end)) c.loop-i.invariant)
+pub returns-in_err-ok : goal.returns-in_err-ok
+returns-in_err-ok c =
+    let r = c.args.route in
+    let i = c.loop-number.number-index in
+    let xs = c.in_ok-numbers.numbers.now in
+    let n = c.in_ok-numbers.ensures.lookup.0 in
+    let more : i < r.count = omega (arith, n.3, c.loop-number-test.true) in
+    let large : 255 < get_or xs i 0 = (let h : get_or xs i 0 < 256 → ⊥ = refuted c.try_from.result _ _ c.try_from.ensures c.in_err-ok.ensures.variant in omega (arith, h)) in
+    rw c.from_residual-in_err-ok.ensures
+    (λ net from to. too_large net from to r i (get_or xs i 0) more (ap (λ ys. get_or ys i 0) n.2 ∙ get_or-take (r.count - 0) r.links i 0 (omega (arith, more))) large)

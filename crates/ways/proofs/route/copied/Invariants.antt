@@ -1,5 +1,5 @@
-use Rattle.ways.proofs.Copied.{CopiedTo}
+use Rattle.std.proofs.Common.{◌≡◌, take}
 use Rattle.ways.proofs.route.copied.Given as goal
 
-abbrev pub invariant-loop-i : goal.invariant-loop-i
-invariant-loop-i l = CopiedTo l.route.links l.links l.i
+abbrev pub invariant-loop-number : goal.invariant-loop-number
+invariant-loop-number l = l.path ≡ take l.number-index l.numbers

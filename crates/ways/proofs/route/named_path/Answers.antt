@@ -1,15 +1,15 @@
-use Rattle.ways.proofs.Copied.{route_refused, route_none, route_some}
+use Rattle.std.proofs.Common.{ap, ◌∙◌}
+use Rattle.network.specs.Paths.{crossing, is_path}
+use Rattle.ways.specs.Ways.{every_link}
+use Rattle.ways.proofs.Copied.{route_refused, route_named}
 use Rattle.ways.proofs.route.named_path.Goals as goal
 
-pub returns-in_default : goal.returns-in_default
-returns-in_default c =
-    let net = c.args.net.now in
-    record { numbers = route_refused net c.args.from c.args.to c.args.route (c.in_default.ensures net c.args.from c.args.to); formed = tt }
-
-pub returns-then-not-is_path : goal.returns-then-not-is_path
-returns-then-not-is_path c =
-    record { numbers = route_none c.args.net.now c.args.from c.args.to c.args.route c.in-Some.path c.in-Some.ensures c.if-not-is_path.ensures; formed = tt }
+pub returns-in_err-path : goal.returns-in_err-path
+returns-in_err-path c =
+    let a = c.args in
+    c.from_residual.ensures ∙ route_refused a.net.now a.from a.to a.route (c.in_err-path.ensures a.net.now a.from a.to)
 
 pub returns : goal.returns
 returns c =
-    record { numbers = route_some c.args.net.now c.args.from c.args.to c.args.route c.in-Some.path c.in-Some.ensures c.if-not-is_path.ensures; formed = c.in-Some.ensures.formed }
+    let a = c.args in
+    c.then_some.ensures ∙ route_named a.net.now a.from a.to a.route c.in_ok-path.path c.in_ok-path.ensures c.is_path.result (c.is_path.ensures ∙ ap (is_path (crossing a.net.now every_link) a.net.now.hops a.from a.to) c.links.ensures)

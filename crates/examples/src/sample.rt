@@ -1,0 +1,42 @@
+ghost use Rattle.std.specs.Prelude.{◌≡◌, IfOk, length};
+ghost use Rattle.bitmap.specs.Means.{map_means};
+ghost use Rattle.calendar.specs.Layers.{windowed};
+ghost use Rattle.calendar.specs.Making.{open_plant};
+ghost use Rattle.layers.specs.Means.{windows_means};
+
+use bitmap::map::Map;
+use layers::window_table::WindowTable;
+use layers::windows::Windows;
+use network::link::Link;
+use network::network::Network;
+use std::alloc::Global;
+
+// The sample's links: two places, metres, hundredths of a decibel.
+const LINKS: [(u32, u32, u32, u32); 4] = [
+    (1, 2, 1000, 20),
+    (2, 3, 1000, 20),
+    (3, 4, 1000, 20),
+    (1, 4, 5000, 90),
+];
+
+// Four places, with three links along a row and a long one back; a path has at most three links.
+pub fn sample_network(heap: Global) -> anyhow::Result<Network>
+    ensures { IfOk result (λ net. (net.places ≡ 4) × (net.hops ≡ 3)) }
+{
+    let mut net = Network::new(heap, 4, 3)?;
+    for (one, two, metres, loss) in LINKS {
+        net.add(Link::new(one, two, metres, loss)?)?;
+    }
+    Ok(net)
+}
+
+// Two channels on each of four links, and link 2 shut from hour 20 for 4 hours.
+pub fn sample_plant(heap: Global) -> anyhow::Result<Windows<Map>>
+    ensures { IfOk result (λ plant. windows_means map_means plant ≡ windowed plant.table.windows 1 (open_plant 4 2 1344)) }
+{
+    let mut windows = WindowTable::new();
+    windows.add(2, 20, 4)?;
+    let words: Vec<u64> = vec![in heap; 0; 48]?;
+    let map = Map::new(words, 4, 2).map_err(|refused| refused.why)?;
+    Ok(Windows::new(map, windows))
+}

@@ -1,7 +1,0 @@
-use Rattle.std.proofs.Common.{◌≡◌, ℕ, ◌<◌, ◌≤◌, ◌&&◌}
-use Rattle.network.specs.Flags.{may_use}
-use Rattle.ways.specs.Hours.{block_free, cell_at}
-use Rattle.ways.proofs.blocks.open_links.Given as goal
-
-abbrev pub invariant-loop-link : goal.invariant-loop-link
-invariant-loop-link l = (i : ℕ) → 1 ≤ i → i < l.link → may_use l.open i ≡ (may_use l.usable i && block_free (cell_at l.cells) l.order l.a i)
