@@ -17,7 +17,7 @@ fn cell_hours(row: &Row) -> u32
     ensures is { result ≡ cell_hours (stood row.now) }
     ensures few { result ≤ 32640 }
 {
-    cells(row.way.path.count, row.order.width, row.order.hours)
+    cells(row.way.path.count(), row.order.width, row.order.hours)
 }
 
 // The cells that all orders hold.

@@ -11,7 +11,8 @@ use Rattle.network.specs.declared.network.Network.{Network}
 use Rattle.ways.specs.Hours.{hours_fit, block_fits, run_free, block_free}
 use Rattle.ways.specs.Right.{AllowedWay}
 use Rattle.ways.specs.Routes.{route_numbers, is_route}
-use Rattle.ways.specs.Ways.{Named, Wanted, every_link}
+use Rattle.ways.specs.Ways.{Wanted, every_link}
+use Rattle.ways.specs.declared.way.Way.{Way}
 use Rattle.ways.specs.declared.route.Route.{Route}
 use Rattle.ways.proofs.Rightly.{way_found}
 use Rattle.ways.proofs.Routes.{path_from, has_at}
@@ -94,7 +95,7 @@ pub record Takeable (net : Network) (m : Meaning) (e : Standing) : Type 0 where
   pub free : blocked (taken m) e ≡ false
   pub room : runs_needed e ≤ room_of m
 
-fit_from : (net : Network) (m : Meaning) (es : List Standing) (r : Request) (w : Named) → Checked net m es r → is_path (crossing net every_link) net.hops r.from r.to w.path ≡ true → block_fits m.channels w.channel r.width ≡ true → fit net m.links m.channels (along (order_of r) w) ≡ true
+fit_from : (net : Network) (m : Meaning) (es : List Standing) (r : Request) (w : Way) → Checked net m es r → is_path (crossing net every_link) net.hops r.from r.to w.path ≡ true → block_fits m.channels w.channel r.width ≡ true → fit net m.links m.channels (along (order_of r) w) ≡ true
 unfolding fit
 fit_from net m es r w c p b =
     and_from _ _
@@ -130,7 +131,7 @@ block_clear t e free =
     let b = any_none e.order.width (λ k. not (run_free t e.order l (e.channel + k))) (not-true _ (free l (has_at e.path i li))) w lw in
     not-true (any e.order.hours (λ j. t l c (later e.order.first j))) (not-false (run_free t e.order l c) b)))
 
-pub booked : {C : Type 0} (g : Rules C) → Laws g.kind → (m : Meaning) (es : List Standing) (r : Request) (w : Named) → way_for g (taken m) m.channels (order_of r) ≡ Some w → was_accepted (book_answer g m es r) ≡ true → Takeable g.net m (along (order_of r) w) × (length es < 64)
+pub booked : {C : Type 0} (g : Rules C) → Laws g.kind → (m : Meaning) (es : List Standing) (r : Request) (w : Way) → way_for g (taken m) m.channels (order_of r) ≡ Some w → was_accepted (book_answer g m es r) ≡ true → Takeable g.net m (along (order_of r) w) × (length es < 64)
 unfolding way_for
 booked {C} g laws m es r w found ok =
     let e = along (order_of r) w in

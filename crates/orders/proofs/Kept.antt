@@ -6,7 +6,8 @@ use Rattle.network.specs.Costs.{Laws}
 use Rattle.network.specs.Paths.{crossing, is_path, when_there}
 use Rattle.network.specs.declared.network.Network.{Network}
 use Rattle.ways.specs.Hours.{block_fits}
-use Rattle.ways.specs.Ways.{Named, every_link}
+use Rattle.ways.specs.Ways.{every_link}
+use Rattle.ways.specs.declared.way.Way.{Way}
 use Rattle.orders.specs.Book.{stands, pick, strike, at_hour, moved}
 use Rattle.orders.specs.Calls.{Rules, stands_so, order_of, along, given, way_for, width_fits, book_answer, answer, was_accepted, effect, fed, plant_after, orders_after}
 use Rattle.orders.specs.Lists.{taken_then}
@@ -86,7 +87,7 @@ module _ (net : Network) (s m : Meaning) (so : Sound m) (es : List Standing) (n 
       (tie_in net s left (strike n es) (moved n f es) o out (λ g. sum_moved g n f es st) ok free)
 
 module _ {C : Type 0} (g : Rules C) (laws : Laws g.kind) (s m : Meaning) (so : Sound m) (es : List Standing) (t : Tied g.net s m es) where
-  found_keeps : (o : Option Named) (r : _) → way_for g (taken m) m.channels (order_of r) ≡ o → was_accepted (book_answer g m es r) ≡ true → Tied g.net s (when_there o m (λ w. hold_all m (along (order_of r) w))) (when_there o es (λ w. es ++ (along (order_of r) w ∷ [])))
+  found_keeps : (o : Option Way) (r : _) → way_for g (taken m) m.channels (order_of r) ≡ o → was_accepted (book_answer g m es r) ≡ true → Tied g.net s (when_there o m (λ w. hold_all m (along (order_of r) w))) (when_there o es (λ w. es ++ (along (order_of r) w ∷ [])))
   found_keeps None r found ok = t
   found_keeps (Some w) r found ok = taken_keeps g.net s m es (along (order_of r) w) t (booked g laws m es r w found ok).0
 

@@ -1,22 +1,18 @@
 -- Rows of the book as standing orders.
-use Rattle.std.proofs.Common.{◌≡◌, ℕ, suc, ◌<◌, eqb, List, [], ◌∷◌, ◌++◌, map, length, get_or, take, drop, set, sym, refl, ap, ◌∙◌, arith, length-take-le}
+use Rattle.std.proofs.Common.{◌≡◌, ℕ, suc, ◌<◌, ◌==◌, List, [], ◌∷◌, ◌++◌, map, length, get_or, take, drop, set, sym, refl, ap, ◌∙◌, arith}
+use Rattle.std.proofs.lemmas.Bool.Decides.{nat_tests}
 use lib.Seq.{map-set}
-use Rattle.std.specs.List.{remove}
+use Rattle.std.specs.List.{remove, list_any}
 use Rattle.std.proofs.lemmas.List.{length-map, map-append, take-map, drop-map, get_or-map}
-use Rattle.calendar.specs.Week.{any}
-use Rattle.ways.proofs.Routes.{has_any}
+use Rattle.network.specs.Paths.{has}
 use Rattle.orders.specs.Book.{nobody, at_hour}
-use Rattle.orders.specs.Runs.{link_of}
-use Rattle.orders.specs.Standing.{stood, all_stood, crosses}
+use Rattle.orders.specs.Standing.{stood, all_stood}
 use Rattle.orders.specs.declared.row.Row.{Row}
 
--- a row's path has as many links as it says
-pub path_length : (r : Row) → length (stood r).path ≡ r.way.path.count
-path_length r = length-take-le r.way.path.count r.way.path.links (omega (arith, r.few, r.eight))
-
--- a path has a link where one of its numbers is that link
-pub crosses_any : (r : Row) (l : ℕ) → crosses (stood r) l ≡ any r.way.path.count (λ i. eqb (link_of (stood r) i) l)
-crosses_any r l = has_any l (stood r).path ∙ ap (λ n. any n (λ i. eqb (link_of (stood r) i) l)) (path_length r)
+-- a number stands in a list where one of its numbers is that one
+pub has_listed : (l : ℕ) (xs : List ℕ) → list_any (λ y. y == l) xs ≡ has l xs
+has_listed l [] = refl
+has_listed l (x ∷ xs) = grind (arith, nat_tests, has_listed l xs)
 
 pub stood_length : (rows : List Row) → length (all_stood rows) ≡ length rows
 stood_length rows = length-map rows stood

@@ -19,7 +19,8 @@ use Rattle.network.specs.Paths.{when_there}
 use Rattle.network.specs.declared.network.Network.{Network}
 use Rattle.ways.specs.Hours.{hours_fit, block_fits, run_free}
 use Rattle.ways.specs.Routes.{route_numbers, is_route}
-use Rattle.ways.specs.Ways.{Named, chosen_way, every_link}
+use Rattle.ways.specs.Ways.{chosen_way, every_link}
+use Rattle.ways.specs.declared.way.Way.{Way}
 use Rattle.ways.specs.declared.fit.Fit.{Fit}
 use Rattle.ways.specs.declared.order.Order.{Order}
 use Rattle.ways.specs.declared.route.Route.{Route}
@@ -69,13 +70,13 @@ unless (Some why) x = refused why
 abbrev pub order_of : Request → Order
 order_of r = record { number = r.number; from = r.from; to = r.to; width = r.width; first = r.first; hours = r.hours }
 
-abbrev pub along : Order → Named → Standing
+abbrev pub along : Order → Way → Standing
 along o w = record { order = o; channel = w.channel; path = w.path }
 
-abbrev pub given : ℕ → Route → Named
+abbrev pub given : ℕ → Route → Way
 given a p = record { channel = a; path = route_numbers p }
 
-unfoldable pub way_for : {C : Type 0} → Rules C → (ℕ → ℕ → ℕ → Bool) → ℕ → Order → Option Named
+unfoldable pub way_for : {C : Type 0} → Rules C → (ℕ → ℕ → ℕ → Bool) → ℕ → Order → Option Way
 way_for g taken cs o = chosen_way g.fit (record { kind = g.kind; net = g.net; may_use = every_link; free = run_free taken o; channels = cs; order = o })
 
 -- ---- checks

@@ -11,7 +11,7 @@
 --   cells_on e l        how many cells of link l the order is in: width times hours, where it crosses the link
 use Rattle.std.specs.Prelude.{ℕ, ◌+◌, ◌*◌, Bool, if◌then◌else◌, ◌&&◌, List, map, sum_by, nat_le, nat_lt}
 use Rattle.calendar.specs.Week.{covers}
-use Rattle.network.specs.Paths.{has, path_numbers}
+use Rattle.network.specs.Paths.{has}
 use Rattle.ways.specs.declared.order.Order.{Order}
 use Rattle.orders.specs.declared.row.Row.{Row}
 
@@ -21,7 +21,7 @@ pub record Standing : Type 0 where
   pub path : List ℕ
 
 abbrev pub stood : Row → Standing
-stood r = record { order = r.order; channel = r.way.channel; path = path_numbers r.way.path }
+stood r = record { order = r.order; channel = r.way.channel; path = r.way.path }
 
 abbrev pub all_stood : List Row → List Standing
 all_stood rows = map stood rows

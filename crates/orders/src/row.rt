@@ -1,4 +1,4 @@
-ghost use Rattle.std.specs.Prelude.{◌≡◌, ◌+◌, ◌≤◌, length};
+ghost use Rattle.std.specs.Prelude.{◌+◌, ◌≤◌};
 
 use ways::order::Order;
 use ways::way::Way;
@@ -6,11 +6,9 @@ use ways::way::Way;
 pub mod cells;
 
 // An order that stands, with its way: a row of the book. Its block lies within the channels that a plant can have.
-#[derive(Clone, Copy)]
+#[derive(Clone, Copy, Debug, PartialEq)]
 pub struct Row {
     pub order: Order,
     pub way: Way,
     ghost block: { (1 ≤ way.channel) × (way.channel + order.width ≤ 17) },
-    ghost few: { way.path.count ≤ 8 },
-    ghost eight: { length way.path.links ≡ 8 },
 }

@@ -6,7 +6,8 @@ use Rattle.network.specs.Costs.{Laws}
 use Rattle.network.specs.Flags.{is_number}
 use Rattle.ways.specs.Hours.{hours_fit, block_fits, run_free}
 use Rattle.ways.specs.Right.{AllowedWay}
-use Rattle.ways.specs.Ways.{Named, Wanted, every_link, wanted, chosen_way}
+use Rattle.ways.specs.Ways.{Wanted, every_link, wanted, chosen_way}
+use Rattle.ways.specs.declared.way.Way.{Way}
 use Rattle.ways.specs.declared.order.Order.{Order}
 use Rattle.ways.proofs.Fits.{fit_same, fits_parts}
 use Rattle.ways.proofs.Rightly.{way_found}
@@ -37,7 +38,7 @@ module _ {C : Type 0} (g : Rules C) (m : Meaning) (es : List Standing) (r : Requ
   pub found_none : None ≡ chosen_way g.fit (wanted g.kind g.net may m o) → Refuses (record { rules = g; plant = m; standing = es }) (Book r) NoWay
   found_none e = book_no_way g m es r fine.0 (e ∙ searched)
 
-  module _ (w : Named) (found : Some w ≡ chosen_way g.fit (wanted g.kind g.net may m o)) where
+  module _ (w : Way) (found : Some w ≡ chosen_way g.fit (wanted g.kind g.net may m o)) where
     pub found_block : Laws g.kind → Sound m → (1 ≤ w.channel) × (w.channel + o.width ≤ 17)
     found_block laws so =
         let search : Wanted C = wanted g.kind g.net may m o in

@@ -5,7 +5,7 @@ use Rattle.calendar.specs.Meaning.{Meaning, room_of, taken}
 use Rattle.network.specs.Paths.{when_there}
 use Rattle.ways.specs.Hours.{block_fits}
 use Rattle.ways.specs.Routes.{is_route}
-use Rattle.ways.specs.Ways.{Named}
+use Rattle.ways.specs.declared.way.Way.{Way}
 use Rattle.ways.specs.declared.route.Route.{Route}
 use Rattle.orders.specs.Book.{stands, pushed}
 use Rattle.orders.specs.Calls.{Rules, State, Said, stands_so, refused, unless, order_of, along, given, way_for, order_fault, runs_needed, if_room, book_answer, place_answer, answer, was_accepted, effect, fed}
@@ -48,7 +48,7 @@ module _ {C : Type 0} (g : Rules C) (m : Meaning) (es : List Standing) where
       }
 
   -- the last checks, once those that book and place share have passed
-  pushes : (r : Request) (w : Named) → Checked g.net m es r → pushed es (along (order_of r) w) ≡ es ++ (along (order_of r) w ∷ [])
+  pushes : (r : Request) (w : Way) → Checked g.net m es r → pushed es (along (order_of r) w) ≡ es ++ (along (order_of r) w ∷ [])
   pushes r w c =
       cond-false (leb 64 (length es) || stands r.number es) es (es ++ (along (order_of r) w ∷ []))
       (or_from (leb 64 (length es)) (stands r.number es) (lt-leb 64 (length es) c.few) c.fresh)
@@ -61,13 +61,13 @@ module _ {C : Type 0} (g : Rules C) (m : Meaning) (es : List Standing) where
 
   module _ (r : Request) where
     module _ (fine : None ≡ order_fault g m es r) where
-      searched : (o : Option Named) → o ≡ way_for g (taken m) m.channels (order_of r) → book_answer g m es r ≡ when_there o (refused NoWay) (λ w. if_room m (along (order_of r) w))
+      searched : (o : Option Way) → o ≡ way_for g (taken m) m.channels (order_of r) → book_answer g m es r ≡ when_there o (refused NoWay) (λ w. if_room m (along (order_of r) w))
       searched o f = ap (λ x. unless x (when_there (way_for g (taken m) m.channels (order_of r)) (refused NoWay) (λ w. if_room m (along (order_of r) w)))) (sym fine) ∙ ap (λ x. when_there x (refused NoWay) (λ w. if_room m (along (order_of r) w))) (sym f)
 
       pub book_no_way : None ≡ way_for g (taken m) m.channels (order_of r) → Refuses (record { rules = g; plant = m; standing = es }) (Book r) NoWay
       book_no_way f = refuses (Book r) NoWay (searched None f)
 
-      module _ (w : Named) (found : Some w ≡ way_for g (taken m) m.channels (order_of r)) where
+      module _ (w : Way) (found : Some w ≡ way_for g (taken m) m.channels (order_of r)) where
         pub book_no_room : room_of m < runs_needed (along (order_of r) w) → Refuses (record { rules = g; plant = m; standing = es }) (Book r) NoRoom
         book_no_room room = refuses (Book r) NoRoom (searched (Some w) found ∙ crowded (along (order_of r) w) room)
 

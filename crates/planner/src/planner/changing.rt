@@ -18,7 +18,7 @@ impl<P: Plant, C: Cost> Planner<P, C> {
     {
         let i = self.book.find(number).ok_or(Refusal::NotStanding)?;
         let row = self.book.rows[i];
-        each_run(&mut self.plant, row, P::release);
+        each_run(&mut self.plant, &row, P::release);
         self.book.remove(i);
         Ok(Accepted::Cancelled(row.order.number))
     }
@@ -36,11 +36,11 @@ impl<P: Plant, C: Cost> Planner<P, C> {
         let mut new = old;
         new.order.first = hour as u8;
         // A fault is what is looked for, so it is no error until here: no method of Option says this more plainly.
-        if let Some(why) = first_fault(&self.plant, Some(old), new) {
+        if let Some(why) = first_fault(&self.plant, Some(&old), &new) {
             return Err(why);
         }
-        each_run(&mut self.plant, old, P::release);
-        each_run(&mut self.plant, new, P::hold);
+        each_run(&mut self.plant, &old, P::release);
+        each_run(&mut self.plant, &new, P::hold);
         self.book.set_hour(i, hour as u8);
         Ok(Accepted::Stands(new))
     }

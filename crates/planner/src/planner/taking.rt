@@ -58,7 +58,7 @@ impl<P: Plant, C: Cost> Planner<P, C> {
             .ok_or(Refusal::BadBlock)?;
         let way = Way { channel, path };
         let row = Row { order, way };
-        if let Some(why) = first_fault(&self.plant, None, row) {
+        if let Some(why) = first_fault(&self.plant, None, &row) {
             return Err(why);
         }
         if self.plant.room() < row.runs_needed() {
@@ -68,13 +68,13 @@ impl<P: Plant, C: Cost> Planner<P, C> {
     }
 
     // Puts the order into the plant, and at the end of the book.
-    fn take(&mut self, row: Row) -> Accepted
-        ensures answer { result ≡ Stands row }
-        ensures state { seen P.meaning C.kind self.new ≡ joined (seen P.meaning C.kind self.old) (stood row) }
+    fn take(&mut self, row: &Row) -> Accepted
+        ensures answer { result ≡ Stands row.now }
+        ensures state { seen P.meaning C.kind self.new ≡ joined (seen P.meaning C.kind self.old) (stood row.now) }
     {
         each_run(&mut self.plant, row, P::hold);
-        self.book.push(row);
-        Accepted::Stands(row)
+        self.book.push(*row);
+        Accepted::Stands(*row)
     }
 
     // Finds the order a way, and takes it.
@@ -83,7 +83,7 @@ impl<P: Plant, C: Cost> Planner<P, C> {
         ensures state { seen P.meaning C.kind self.new ≡ after (seen P.meaning C.kind self.old) (BookOf request) }
     {
         let row = self.found_row(request)?;
-        Ok(self.take(row))
+        Ok(self.take(&row))
     }
 
     // Takes the way that is given: a first channel and a path.
@@ -92,6 +92,6 @@ impl<P: Plant, C: Cost> Planner<P, C> {
         ensures state { seen P.meaning C.kind self.new ≡ after (seen P.meaning C.kind self.old) (PlaceOf request channel route) }
     {
         let row = self.given_row(request, channel, route)?;
-        Ok(self.take(row))
+        Ok(self.take(&row))
     }
 }

@@ -6,7 +6,6 @@ use Rattle.orders.specs.Runs.{link_of, cell_fault, run_fault, link_fault, own_ce
 use Rattle.orders.specs.Standing.{Standing, stood}
 use Rattle.orders.specs.declared.refusal.Refusal.{Refusal}
 use Rattle.orders.proofs.Firsts.{first_empty, first_next, first_found, first_done}
-use Rattle.orders.proofs.Rows.{path_length}
 use Rattle.planner.proofs.runs.first_fault.Goals as goal
 
 -- what the inner loops look for
@@ -31,7 +30,7 @@ same_cell m own e i w j l h a b = ap (λ x. cell_fault m own x (e.channel + w) h
 
 pub hours-preserved : goal.hours-preserved
 hours-preserved g c =
-    let m = g.P.Plant.meaning c.args.plant.now in let own = own_cells (option_map stood c.args.own) in let e = stood c.args.row in (
+    let m = g.P.Plant.meaning c.args.plant.now in let own = own_cells (option_map (λ row. stood row.now) c.args.own) in let e = stood c.args.row.now in (
       c.hours.invariant.0,
       c.hours.invariant.1,
       c.hours.invariant.2,
@@ -41,7 +40,7 @@ hours-preserved g c =
 
 pub channels-preserved : goal.channels-preserved
 channels-preserved g c =
-    let m = g.P.Plant.meaning c.args.plant.now in let own = own_cells (option_map stood c.args.own) in let e = stood c.args.row in (
+    let m = g.P.Plant.meaning c.args.plant.now in let own = own_cells (option_map (λ row. stood row.now) c.args.own) in let e = stood c.args.row.now in (
       c.hours.invariant.0,
       c.hours.invariant.1,
       first_next (on_channels m own e c.links.i) c.channels.w c.hours.invariant.2
@@ -50,7 +49,7 @@ channels-preserved g c =
 
 pub channels-preserved-then-is_free : goal.channels-preserved-then-is_free
 channels-preserved-then-is_free g c =
-    let m = g.P.Plant.meaning c.args.plant.now in let own = own_cells (option_map stood c.args.own) in let e = stood c.args.row in (
+    let m = g.P.Plant.meaning c.args.plant.now in let own = own_cells (option_map (λ row. stood row.now) c.args.own) in let e = stood c.args.row.now in (
       c.channels.invariant.0,
       c.channels.invariant.1,
       first_next (on_channels m own e c.links.i) c.channels.w c.channels.invariant.2
@@ -59,7 +58,7 @@ channels-preserved-then-is_free g c =
 
 pub links-preserved : goal.links-preserved
 links-preserved g c =
-    let m = g.P.Plant.meaning c.args.plant.now in let own = own_cells (option_map stood c.args.own) in let e = stood c.args.row in (
+    let m = g.P.Plant.meaning c.args.plant.now in let own = own_cells (option_map (λ row. stood row.now) c.args.own) in let e = stood c.args.row.now in (
       c.channels.invariant.0,
       first_next (λ i. link_fault m own e i e.order.width) c.links.i c.channels.invariant.1
           (first_done (on_channels m own e c.links.i) e.order.width c.channels.w c.channels.invariant.2 (omega arith) (omega arith)),
@@ -67,15 +66,15 @@ links-preserved g c =
 
 pub returns-in-Some : goal.returns-in-Some
 returns-in-Some g c =
-    let m = g.P.Plant.meaning c.args.plant.now in let own = own_cells (option_map stood c.args.own) in let e = stood c.args.row in
+    let m = g.P.Plant.meaning c.args.plant.now in let own = own_cells (option_map (λ row. stood row.now) c.args.own) in let e = stood c.args.row.now in
     let i = c.links.i in let w = c.channels.w in let j = c.hours.j in
     let why = c.in-Some.why in
     let here = c.in-Some.ensures ∙ same_cell m own e i w j c.link_at-link.result c.hour_after.result c.link_at-link.ensures c.hour_after.ensures in
     let hour = first_found (in_hours m own e i w) e.order.hours j why (omega arith) c.hours.invariant.3 here in
     let channel = first_found (on_channels m own e i) e.order.width w why (omega arith) c.hours.invariant.2 hour in
-    first_found (λ i. link_fault m own e i e.order.width) _ i why (omega (arith, path_length c.args.row)) c.hours.invariant.1 channel
+    first_found (λ i. link_fault m own e i e.order.width) _ i why (omega arith) c.hours.invariant.1 channel
 
 pub returns-after-links : goal.returns-after-links
 returns-after-links g c =
-    let m = g.P.Plant.meaning c.args.plant.now in let own = own_cells (option_map stood c.args.own) in let e = stood c.args.row in
-    c.links.invariant.0 ∙ first_done (λ i. link_fault m own e i e.order.width) _ c.links.i c.links.invariant.1 (omega (arith, path_length c.args.row)) (omega (arith, path_length c.args.row))
+    let m = g.P.Plant.meaning c.args.plant.now in let own = own_cells (option_map (λ row. stood row.now) c.args.own) in let e = stood c.args.row.now in
+    c.links.invariant.0 ∙ first_done (λ i. link_fault m own e i e.order.width) _ c.links.i c.links.invariant.1 (omega arith) (omega arith)

@@ -7,5 +7,5 @@ use Rattle.planner.proofs.runs.is_free.Goals as goal
 pub returns : goal.returns
 returns g c e own =
     let m = g.P.Plant.meaning c.args.plant.now in
-    free_run m own (stood c.args.row) c.args.link c.args.channel
+    free_run m own (stood c.args.row.now) c.args.link c.args.channel
     (ap (λ r. is_some (first_taken m r)) (sym c.run_on.ensures) ∙ ap is_some (sym c.first_taken.ensures) ∙ c.is_none.ensures ∙ ap not e)

@@ -1,5 +1,4 @@
 use Rattle.std.proofs.Common.{◌≡◌, Some, None, arith}
-use Rattle.network.specs.Paths.{path_numbers}
 use Rattle.orders.specs.declared.refusal.Refusal.TheVariants.{NotAPath, BadBlock}
 use Rattle.planner.specs.Seen.{seen}
 use Rattle.planner.proofs.Given.{given_no_path, given_no_block, given_block, given_no_cell, given_no_room, given_takes}
@@ -13,7 +12,7 @@ returns-in_err-path g c =
     let why : c.in_err-path.field-0.0 ≡ NotAPath = grind arith in
     let p = err_from_is_err_and c.from_residual-in_err-path.result c.from_residual-in_err-path.ensures.1 in
     rw (p.1, p.2, why)
-    (given_no_path s.rules s.plant s.standing c.args.request c.args.channel c.args.route c.in_ok-order.order c.in_ok-order.ensures (rw none at c.named_path.ensures.numbers))
+    (given_no_path s.rules s.plant s.standing c.args.request c.args.channel c.args.route c.in_ok-order.order c.in_ok-order.ensures (rw none at c.named_path.ensures))
 
 pub returns-in_err-channel : goal.returns-in_err-channel
 returns-in_err-channel g c =
@@ -24,7 +23,7 @@ returns-in_err-channel g c =
     let why : c.in_err-channel.field-0.0 ≡ BadBlock = grind arith in
     let p = err_from_is_err_and c.from_residual-in_err-channel.result c.from_residual-in_err-channel.ensures.1 in
     rw (p.1, p.2, why)
-    (given_no_block s.rules s.plant s.standing c.args.request c.args.channel c.args.route c.in_ok-order.order c.in_ok-order.ensures (path_numbers c.in_ok-path.path) path.numbers (rw none at c.checked_block.ensures))
+    (given_no_block s.rules s.plant s.standing c.args.request c.args.channel c.args.route c.in_ok-order.order c.in_ok-order.ensures c.in_ok-path.path path (rw none at c.checked_block.ensures))
 
 pub invariant_of-row : goal.invariant_of-row
 invariant_of-row g c =
@@ -33,11 +32,7 @@ invariant_of-row g c =
     let path = rw path_is at c.named_path.ensures in
     let block_is : c.checked_block.result ≡ Some c.in_ok-channel.channel = grind arith in
     let block = rw block_is at c.checked_block.ensures in
-    record {
-      block = given_block s.rules s.plant s.standing c.args.request c.args.channel c.args.route c.in_ok-order.order c.in_ok-order.ensures (path_numbers c.in_ok-path.path) path.numbers c.in_ok-channel.channel block (g.P.Plant.sound c.args.self.now.plant);
-      few = path.formed.few;
-      eight = path.formed.eight;
-    }
+    record { block = given_block s.rules s.plant s.standing c.args.request c.args.channel c.args.route c.in_ok-order.order c.in_ok-order.ensures c.in_ok-path.path path c.in_ok-channel.channel block (g.P.Plant.sound c.args.self.now.plant) }
 
 pub returns-in-Some : goal.returns-in-Some
 returns-in-Some g c =
@@ -46,7 +41,7 @@ returns-in-Some g c =
     let path = rw path_is at c.named_path.ensures in
     let block_is : c.checked_block.result ≡ Some c.in_ok-channel.channel = grind arith in
     let block = rw block_is at c.checked_block.ensures in
-    given_no_cell s.rules s.plant s.standing c.args.request c.args.channel c.args.route c.in_ok-order.order c.in_ok-order.ensures (path_numbers c.in_ok-path.path) path.numbers c.in_ok-channel.channel block c.in-Some.why c.in-Some.ensures
+    given_no_cell s.rules s.plant s.standing c.args.request c.args.channel c.args.route c.in_ok-order.order c.in_ok-order.ensures c.in_ok-path.path path c.in_ok-channel.channel block c.in-Some.why c.in-Some.ensures
 
 pub returns-then-room-runs_needed : goal.returns-then-room-runs_needed
 returns-then-room-runs_needed g c =
@@ -55,7 +50,7 @@ returns-then-room-runs_needed g c =
     let path = rw path_is at c.named_path.ensures in
     let block_is : c.checked_block.result ≡ Some c.in_ok-channel.channel = grind arith in
     let block = rw block_is at c.checked_block.ensures in
-    given_no_room s.rules s.plant s.standing c.args.request c.args.channel c.args.route c.in_ok-order.order c.in_ok-order.ensures (path_numbers c.in_ok-path.path) path.numbers c.in_ok-channel.channel block c.in_default.ensures c.room.result c.runs_needed.result c.room.ensures c.runs_needed.ensures c.if-room-runs_needed.true
+    given_no_room s.rules s.plant s.standing c.args.request c.args.channel c.args.route c.in_ok-order.order c.in_ok-order.ensures c.in_ok-path.path path c.in_ok-channel.channel block c.in_default.ensures c.room.result c.runs_needed.result c.room.ensures c.runs_needed.ensures c.if-room-runs_needed.true
 
 pub returns : goal.returns
 returns g c =
@@ -64,4 +59,4 @@ returns g c =
     let path = rw path_is at c.named_path.ensures in
     let block_is : c.checked_block.result ≡ Some c.in_ok-channel.channel = grind arith in
     let block = rw block_is at c.checked_block.ensures in
-    given_takes s.rules s.plant s.standing c.args.request c.args.channel c.args.route c.in_ok-order.order c.in_ok-order.ensures (path_numbers c.in_ok-path.path) path.numbers c.in_ok-channel.channel block c.in_default.ensures c.room.result c.runs_needed.result c.room.ensures c.runs_needed.ensures (omega (arith, c.if-room-runs_needed.false))
+    given_takes s.rules s.plant s.standing c.args.request c.args.channel c.args.route c.in_ok-order.order c.in_ok-order.ensures c.in_ok-path.path path c.in_ok-channel.channel block c.in_default.ensures c.room.result c.runs_needed.result c.room.ensures c.runs_needed.ensures (omega (arith, c.if-room-runs_needed.false))
