@@ -28,14 +28,11 @@ impl<C: Cost> Searched<C> {
     }
 
     pub fn answer(&mut self, from: u8, to: u8) -> Answer {
-        let path = chosen_path(&self.net, &self.usable, &mut self.scratch, from, to)?;
-        let links = path.links;
-        Some((path.count, links))
+        chosen_path(&self.net, &self.usable, &mut self.scratch, from, to)
+            .map(|path| (path.count(), path.numbers()))
     }
 }
 
 pub fn plain_answer<C: PlainCost>(listed: &ListNetwork, from: u8, to: u8) -> Answer {
-    let list = plain_path::<C>(listed, from, to)?;
-    let links = list.links;
-    Some((list.count, links))
+    plain_path::<C>(listed, from, to).map(|list| (list.count, list.links))
 }

@@ -1,5 +1,4 @@
 use anyhow::anyhow;
-use bitmap::map::Map;
 use calendar::run::Run;
 use layers::clock::Clock;
 use layers::offset::Offset;
@@ -14,14 +13,6 @@ fn one_window(link: u32, first: u32, hours: u32) -> anyhow::Result<WindowTable> 
         .add(link, first, hours)
         .map_err(|_| anyhow!("the window is refused"))?;
     Ok(table)
-}
-
-// Windows over a map.
-pub fn office(heap: Global) -> anyhow::Result<Windows<Map>> {
-    let windows = one_window(2, 20, 4)?;
-    let words: Vec<u64> = vec![in heap; 0; 48]?;
-    let map = Map::new(words, 4, 2).map_err(|_| anyhow!("the map is refused"))?;
-    Ok(Windows::new(map, windows))
 }
 
 // Windows over a clock over a timetable.

@@ -95,8 +95,8 @@ impl Case {
             (None, None) => Ok(()),
             (Some(way), Some(plain)) => {
                 assert_eq!(rt; way.channel, plain.channel);
-                assert_eq!(rt; way.path.count, plain.list.count);
-                assert_eq!(rt; way.path.links, plain.list.links);
+                assert_eq!(rt; way.path.count(), plain.list.count);
+                assert_eq!(rt; way.path.numbers(), plain.list.links);
                 Ok(())
             }
             _ => Err(Fail::new("one has a way and the other none")),
