@@ -28,7 +28,3 @@ row_at rows i r l e = get_or-map stood rows i r nobody l ∙ ap stood (sym e)
 
 pub hour_set : (rows : List Row) (i f : ℕ) (old new : Row) → i < length rows → old ≡ get_or rows i old → stood new ≡ at_hour f (stood old) → all_stood (set rows i new) ≡ set (all_stood rows) i (at_hour f (get_or (all_stood rows) i nobody))
 hour_set rows i f old new l e same = map-set stood rows i new ∙ ap (set (all_stood rows) i) (same ∙ ap (at_hour f) (sym (row_at rows i old l e)))
-
-pub none_stood : (rows : List Row) → length rows ≡ 0 → all_stood rows ≡ []
-none_stood [] e = refl
-none_stood (r ∷ rs) e = absurd (omega (arith, e))

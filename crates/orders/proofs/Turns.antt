@@ -1,8 +1,8 @@
 -- Turns of the loops over an order's runs.
-use Rattle.std.proofs.Common.{◌≡◌, ℕ, ◌+◌, ◌≤◌, length, refl, ap, ◌∙◌, add-one, arith}
+use Rattle.std.proofs.Common.{◌≡◌, ℕ, ◌+◌, refl, ap, ◌∙◌, add-one}
 use Rattle.calendar.specs.Meaning.{Meaning}
 use Rattle.calendar.specs.declared.run.Run.{Run}
-use Rattle.orders.specs.Runs.{run_of, link_of, on_link, on_links, each_run}
+use Rattle.orders.specs.Runs.{run_of, link_of, on_link, on_links}
 use Rattle.orders.specs.Standing.{Standing}
 
 module _ (f : Meaning → Run → Meaning) (m : Meaning) (e : Standing) where
@@ -21,6 +21,3 @@ module _ (f : Meaning → Run → Meaning) (m : Meaning) (e : Standing) where
   pub links_more : (i : ℕ) (k n : Meaning) → k ≡ on_links f m e i → n ≡ on_link f k e i e.order.width → n ≡ on_links f m e (i + 1)
   unfolding on_links
   links_more i k n a c = rw add-one (c ∙ ap (λ x. on_link f x e i e.order.width) a)
-
-pub links_all : (f : Meaning → Run → Meaning) (m : Meaning) (e : Standing) (i : ℕ) (k : Meaning) → k ≡ on_links f m e i → i ≤ length e.path → length e.path ≤ i → k ≡ each_run f m e
-links_all f m e i k a p q = let z : i ≡ length e.path = omega (arith, p, q) in a ∙ ap (on_links f m e) z

@@ -1,5 +1,4 @@
-use Rattle.std.proofs.Common.{arith}
-use Rattle.orders.proofs.Turns.{links_none, links_more, links_all}
+use Rattle.orders.proofs.Turns.{links_none, links_more}
 use Rattle.orders.specs.Standing.{stood}
 use Rattle.planner.proofs.runs.each_run.Goals as goal
 
@@ -10,6 +9,3 @@ pub loop-i-preserved : goal.loop-i-preserved
 loop-i-preserved g c does steps =
     links_more does (g.P.Plant.meaning c.args.plant.now) (stood c.args.row.now) c.loop-i.i (g.P.Plant.meaning c.loop-i.plant) (g.P.Plant.meaning c.each_on_link.new.plant)
     (c.loop-i.invariant does steps) (c.each_on_link.ensures does steps)
-
-pub returns : goal.returns
-returns g c does steps = links_all does (g.P.Plant.meaning c.args.plant.now) (stood c.args.row.now) c.loop-i.i (g.P.Plant.meaning c.loop-i.plant) (c.loop-i.invariant does steps) (omega arith) (omega arith)
