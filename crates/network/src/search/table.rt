@@ -36,8 +36,12 @@ impl<C: Copy> Scratch<C> {
         ensures here { (v : ℕ) → v < 33 → cell_at self.new.cells.items j v ≡ None }
         ensures below { (k v : ℕ) → k < j → v < 33 → cell_at self.new.cells.items k v ≡ cell_at self.old.cells.items k v }
     {
+        if j > 8 {
+            return;
+        }
+        // A write that tests its place each time is slower than the search may be.
         for v in 0..33u8 {
-            self.put(j, v, None);
+            self.cells[j as usize * 33 + v as usize] = None;
         }
     }
 }
