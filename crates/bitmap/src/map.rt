@@ -1,10 +1,11 @@
 ghost use Rattle.hour_bits.specs.Tables.{Kept};
 
 use calendar::refusal::MakingRefusal;
+use std::error::Error;
+use std::fmt;
 
 pub mod as_plant;
 mod calls;
-mod questions;
 
 // A plant as bits, over words that were handed in: for each link and channel three words with the held hours, then
 // three with the hours in which a run starts. Words past those needed are never touched.
@@ -17,8 +18,16 @@ pub struct Map {
 }
 
 // Why no map was made, with the words that were handed in.
-#[derive(Drop)]
+#[derive(Debug, Drop)]
 pub struct RefusedWords {
     pub why: MakingRefusal,
     pub words: Vec<u64>,
 }
+
+impl fmt::Display for RefusedWords {
+    fn fmt<W: fmt::Write>(&self, f: &mut fmt::Formatter<W>) -> fmt::Result {
+        self.why.fmt(f)
+    }
+}
+
+impl Error for RefusedWords {}

@@ -1,8 +1,8 @@
 -- What the calls of a map answer and leave, by its words.
-use Rattle.std.proofs.Common.{◌≡◌, ℕ, ◌+◌, ◌-◌, ◌*◌, ◌<◌, ◌≤◌, Bool, true, false, cond, not, ◌&&◌, ◌||◌, eqb, ltb, leb, List, length, Some, None, Option, sym, refl, ap, ◌∙◌, subst, mul_comm, arith}
+use Rattle.std.proofs.Common.{◌≡◌, ℕ, ◌+◌, ◌-◌, ◌*◌, ◌<◌, ◌≤◌, Bool, true, false, cond, not, ◌&&◌, ◌||◌, eqb, ltb, leb, List, length, Some, None, sym, refl, ap, ◌∙◌, subst, mul_comm, arith}
 use Rattle.std.proofs.lemmas.Nat.{mul-le}
-use Rattle.std.proofs.lemmas.Bool.{and_parts, and_left, cond-true, eq-eqb, leb-true, ne_eqb, not_from_true}
-use Rattle.calendar.specs.Week.{any, least, later}
+use Rattle.std.proofs.lemmas.Bool.{and_parts, and_left, and_from, le-leb, cond-true, eq-eqb, eqb-true, leb-true, ne_eqb, not-true, not-false, not_from_true}
+use Rattle.calendar.specs.Week.{any, least, later, covers}
 use Rattle.calendar.specs.Meaning.{size_of, within, fits, proper, meets, is_held, live_count, room_of, with_run, hold_number, after_hold, release_number, after_release, taken, free_hours, first_taken}
 use Rattle.calendar.specs.declared.run.Run.{Run}
 use Rattle.calendar.specs.declared.run.Size.{Size}
@@ -10,14 +10,14 @@ use Rattle.calendar.proofs.Kept.{count_at, none_there}
 use Rattle.calendar.proofs.Plants.{proper_size, refused_hold, refused_release}
 use Rattle.calendar.proofs.Leasts.{least_cong}
 use Rattle.calendar.proofs.Sums.{any_cong, any_false}
-use Rattle.hour_bits.specs.Bits.{row, hours_of, first_set, more_hours, fewer_hours, Marked, Unmarked}
+use Rattle.hour_bits.specs.Bits.{row, bits, hours_of, has_run, first_set, more_hours, fewer_hours, Shown, Stored, Marked, Unmarked}
+use Rattle.hour_bits.specs.declared.row.LiveRuns.{LiveRuns}
 use Rattle.hour_bits.specs.Tables.{mapped, base_of, held_in, start_in, words_mean, Kept, Placed, Spare}
 use Rattle.hour_bits.proofs.Circle.{free_from}
-use Rattle.hour_bits.proofs.Runs.{RunAt, run_there, hours_some}
-use Rattle.hour_bits.proofs.Tables.{Within, within_parts, within_from, live_hours, hold_means, hold_sounds, release_means, release_sounds}
+use Rattle.hour_bits.proofs.Runs.{RunAt, second_false, run_there, hours_some}
+use Rattle.hour_bits.proofs.Tables.{Within, Sounds, within_parts, within_from, same_hours, live_hours, hold_means, hold_sounds, release_means, release_sounds}
 use Rattle.hour_bits.proofs.Places.{row_fits, held_changed, start_changed, past_rows}
 use Rattle.hour_bits.proofs.Mapped.{count_bound, mapped_held}
-use Rattle.hour_bits.proofs.Firsts.{set_missed}
 use Rattle.hour_bits.proofs.Keeping.{kept_sounds, kept_sound}
 
 pub words_proper : (ws : List ℕ) (L C : ℕ) (r : Run) → proper (words_mean ws L C) r ≡ fits L C r
@@ -70,6 +70,19 @@ module _ (ws : List ℕ) (L C : ℕ) (k : Kept ws L C) where
   pub held_outside : (l c h : ℕ) → within L C l c h ≡ false → false ≡ is_held (words_mean ws L C) l c h
   held_outside l c h e = sym (mapped_held L C (held_in ws C) (start_in ws C) (kept_sounds ws L C k) l c h ∙ and_left (within L C l c h) (held_in ws C l c h) e)
 
+  -- words of the same number keep what the old ones kept, if their rows are sound
+  still_kept : (w : List ℕ) → length w ≡ length ws → Sounds L C (held_in w C) (start_in w C) → Kept w L C
+  still_kept w same all =
+      let enough = k.enough in
+      record {
+        some_links = k.some_links;
+        few_links = k.few_links;
+        some_channels = k.some_channels;
+        few_channels = k.few_channels;
+        enough = omega arith;
+        rows = λ x y e. all x y (within_parts L C x y 0 e).0;
+      }
+
   module _ (r : Run) (b : ℕ) (at : Placed ws L C r b) where
     sized : Within L C r.link r.channel
     sized = (fits_parts L C r at.fit).0
@@ -77,7 +90,7 @@ module _ (ws : List ℕ) (L C : ℕ) (k : Kept ws L C) where
     run_held : (j : ℕ) → is_held (words_mean ws L C) r.link r.channel (later r.first j) ≡ row ws b (later r.first j)
     run_held j = cell_held r.link r.channel (later r.first j) sized (omega arith) ∙ ap (λ x. row ws x (later r.first j)) (sym at.base)
 
-    pub held_bit : row ws b r.first ≡ is_held (words_mean ws L C) r.link r.channel r.first
+    held_bit : row ws b r.first ≡ is_held (words_mean ws L C) r.link r.channel r.first
     held_bit = sym (cell_held r.link r.channel r.first sized at.first ∙ ap (λ x. row ws x r.first) (sym at.base))
 
     open_cells : meets (words_mean ws L C).closed r ≡ false
@@ -100,13 +113,7 @@ module _ (ws : List ℕ) (L C : ℕ) (k : Kept ws L C) where
         let e : least r.hours T ≡ least r.hours R = least_cong r.hours T R (λ j _. open_taken (within L C r.link r.channel (later r.first j)) _ _ (within_from L C r.link r.channel (later r.first j) sized (omega arith)) (run_held j)) in
         ap (λ x. cond (ltb x r.hours) (Some (later r.first x)) None) (sym e) ∙ sym (cond-true (proper (words_mean ws L C) r) _ _ fitting)
 
-    pub first_is : (xs : List ℕ) (o : Option ℕ) → o ≡ first_set (row xs b) r.first r.hours → xs ≡ ws → o ≡ first_taken (words_mean ws L C) r
-    first_is xs o e q = subst (λ x. o ≡ first_set (row x b) r.first r.hours) q e ∙ first_words
-
-    pub first_none : any r.hours (λ j. row ws b (later r.first j)) ≡ false → None ≡ first_taken (words_mean ws L C) r
-    first_none e = set_missed (row ws b) r.first r.hours e ∙ first_words
-
-    pub hold_taken : any r.hours (λ j. row ws b (later r.first j)) ≡ true
+    hold_taken : any r.hours (λ j. row ws b (later r.first j)) ≡ true
         → (hold_number (words_mean ws L C) r ≡ 23) × (after_hold (words_mean ws L C) r ≡ words_mean ws L C)
     unfolding hold_number after_hold
     hold_taken e = let a : hold_number (words_mean ws L C) r ≡ 23 = rw (fitting, open_cells, held_cells ∙ e) in (a, rw a)
@@ -129,30 +136,22 @@ module _ (ws : List ℕ) (L C : ℕ) (k : Kept ws L C) where
       unfolding hold_number
       hold_answer = rw (fitting, open_cells, held_cells ∙ free, room_left)
 
-      pub hold_done : (w : List ℕ) → length w ≡ length ws → Marked ws w b r.first r.hours
+      hold_done : (w : List ℕ) → length w ≡ length ws → Stored ws w b (more_hours (row ws b) r.first r.hours) (more_hours (row ws (b + 3)) r.first 1)
           → record { kept : Kept w L C; answer : 0 ≡ hold_number (words_mean ws L C) r; after : words_mean w L C ≡ after_hold (words_mean ws L C) r; spare : Spare ws w (L * C * 6) }
       unfolding after_hold
-      hold_done w same marked =
+      hold_done w same new =
           let l = r.link in
           let c = r.channel in
-          let d = subst (λ x. Marked ws w x r.first r.hours) at.base marked in
+          let d = subst (λ x. Stored ws w x (more_hours (row ws x) r.first r.hours) (more_hours (row ws (x + 3)) r.first 1)) at.base new in
           let f = free_from (held_in ws C l c) r.first r.hours at.first (subst (λ x. any r.hours (λ j. row ws x (later r.first j)) ≡ false) at.base free) in
-          let ch = held_changed L C ws d.between w l c sized _ _ d.held d.start in
-          let cs = start_changed L C ws d.between w l c sized _ _ d.held d.start (more_hours (start_in ws C l c) r.first 1) (λ h q. rw q) in
+          let ch = held_changed L C ws w l c sized _ _ d in
+          let cs = start_changed L C ws w l c sized _ _ d in
           let all = hold_sounds L C _ _ _ _ r sized at.first (kept_sounds ws L C k) at.some at.most f ch cs in
-          let enough = k.enough in
           record {
-            kept = record {
-              some_links = k.some_links;
-              few_links = k.few_links;
-              some_channels = k.some_channels;
-              few_channels = k.few_channels;
-              enough = omega arith;
-              rows = λ x y e. all x y (within_parts L C x y 0 e).0;
-            };
+            kept = still_kept w same all;
             answer = sym hold_answer;
             after = hold_means L C _ _ _ _ r sized at.first (kept_sounds ws L C k) at.some at.most f ch cs ∙ sym (rw hold_answer);
-            spare = record { many = same; same = past_rows L C ws d.between w l c sized _ _ d.held d.start };
+            spare = record { many = same; same = past_rows L C ws w l c sized _ _ d };
           }
 
     -- the bits tell the run that starts there
@@ -160,7 +159,7 @@ module _ (ws : List ℕ) (L C : ℕ) (k : Kept ws L C) where
     unfolding mapped
     live_bits = live_hours L C (held_in ws C) (start_in ws C) r.link r.channel r.first sized at.first ∙ ap (λ x. hours_of (row ws x) (row ws (x + 3)) r.first) (sym at.base)
 
-    pub release_lost : eqb (hours_of (row ws b) (row ws (b + 3)) r.first) r.hours ≡ false
+    release_lost : eqb (hours_of (row ws b) (row ws (b + 3)) r.first) r.hours ≡ false
         → (release_number (words_mean ws L C) r ≡ 25) × (after_release (words_mean ws L C) r ≡ words_mean ws L C)
     unfolding release_number after_release
     release_lost e = let a : release_number (words_mean ws L C) r ≡ 25 = rw (fitting, live_bits, e) in (a, rw a)
@@ -176,30 +175,70 @@ module _ (ws : List ℕ) (L C : ℕ) (k : Kept ws L C) where
           subst (λ x. RunAt (row ws x) (row ws (x + 3)) r.first r.hours) at.base
           (subst (RunAt (row ws b) (row ws (b + 3)) r.first) live (run_there (row ws b) (row ws (b + 3)) r.first at.first (hours_some (row ws b) (row ws (b + 3)) r.first (omega arith))))
 
-      pub release_done : (w : List ℕ) → length w ≡ length ws → Unmarked ws w b r.first r.hours
+      release_done : (w : List ℕ) → length w ≡ length ws → Stored ws w b (fewer_hours (row ws b) r.first r.hours) (fewer_hours (row ws (b + 3)) r.first 1)
           → record { kept : Kept w L C; answer : 0 ≡ release_number (words_mean ws L C) r; after : words_mean w L C ≡ after_release (words_mean ws L C) r; spare : Spare ws w (L * C * 6) }
       unfolding after_release
-      release_done w same unmarked =
+      release_done w same new =
           let l = r.link in
           let c = r.channel in
-          let d = subst (λ x. Unmarked ws w x r.first r.hours) at.base unmarked in
-          let ch = held_changed L C ws d.between w l c sized _ _ d.held d.start in
-          let cs = start_changed L C ws d.between w l c sized _ _ d.held d.start (fewer_hours (start_in ws C l c) r.first 1) (λ h q. rw q) in
+          let d = subst (λ x. Stored ws w x (fewer_hours (row ws x) r.first r.hours) (fewer_hours (row ws (x + 3)) r.first 1)) at.base new in
+          let ch = held_changed L C ws w l c sized _ _ d in
+          let cs = start_changed L C ws w l c sized _ _ d in
           let all = release_sounds L C _ _ _ _ r sized at.first (kept_sounds ws L C k) there ch cs in
-          let enough = k.enough in
           record {
-            kept = record {
-              some_links = k.some_links;
-              few_links = k.few_links;
-              some_channels = k.some_channels;
-              few_channels = k.few_channels;
-              enough = omega arith;
-              rows = λ x y e. all x y (within_parts L C x y 0 e).0;
-            };
+            kept = still_kept w same all;
             answer = sym release_answer;
             after = release_means L C _ _ _ _ r sized at.first (kept_sounds ws L C k) there ch cs ∙ sym (rw release_answer);
-            spare = record { many = same; same = past_rows L C ws d.between w l c sized _ _ d.held d.start };
+            spare = record { many = same; same = past_rows L C ws w l c sized _ _ d };
           }
+
+    -- the live runs that the bits of the row show
+    module _ (old : LiveRuns) (shown : Shown ws b old) where
+      same_any : any r.hours (λ j. bits old.held (later r.first j)) ≡ any r.hours (λ j. row ws b (later r.first j))
+      same_any = any_cong r.hours _ _ (λ j _. shown.held (later r.first j) (omega arith))
+
+      same_run : hours_of (bits old.held) (bits old.starts) r.first ≡ hours_of (row ws b) (row ws (b + 3)) r.first
+      same_run = same_hours (row ws b) (row ws (b + 3)) (bits old.held) (bits old.starts) shown.held shown.start r.first at.first
+
+      -- what the tests of the live runs tell
+      pub free_shown : not (any r.hours (λ j. bits old.held (later r.first j))) ≡ true → any r.hours (λ j. row ws b (later r.first j)) ≡ false
+      free_shown e = sym same_any ∙ not-true _ e
+
+      pub taken_shown : not (any r.hours (λ j. bits old.held (later r.first j))) ≡ false
+          → (hold_number (words_mean ws L C) r ≡ 23) × (after_hold (words_mean ws L C) r ≡ words_mean ws L C)
+      taken_shown e = hold_taken (sym same_any ∙ not-false _ e)
+
+      pub live_shown : has_run (bits old.held) (bits old.starts) r.first r.hours ≡ true → hours_of (row ws b) (row ws (b + 3)) r.first ≡ r.hours
+      live_shown e = sym same_run ∙ eqb-true _ r.hours (and_parts (leb 1 r.hours && leb r.hours 168) _ e).1
+
+      pub bit_shown : bits old.held r.first ≡ is_held (words_mean ws L C) r.link r.channel r.first
+      bit_shown = shown.held r.first at.first ∙ held_bit
+
+      pub first_shown : first_set (bits old.held) r.first r.hours ≡ first_taken (words_mean ws L C) r
+      first_shown = ap (λ k. cond (ltb k r.hours) (Some (later r.first k)) None) (least_cong r.hours _ _ (λ j _. shown.held (later r.first j) (omega arith))) ∙ first_words
+
+      pub release_refused : has_run (bits old.held) (bits old.starts) r.first r.hours ≡ false
+          → (release_number (words_mean ws L C) r ≡ 25) × (after_release (words_mean ws L C) r ≡ words_mean ws L C)
+      release_refused e =
+          release_lost (ap (λ n. eqb n r.hours) (sym same_run)
+          ∙ second_false (leb 1 r.hours && leb r.hours 168) _ (and_from _ _ (le-leb 1 r.hours at.some) (le-leb r.hours 168 at.most)) e)
+
+      module _ (new : LiveRuns) (w : List ℕ) (same : length w ≡ length ws) (stored : Stored ws w b (bits new.held) (bits new.starts)) where
+        pub hold_stored : any r.hours (λ j. row ws b (later r.first j)) ≡ false → Marked old new r.first r.hours
+            → record { kept : Kept w L C; answer : 0 ≡ hold_number (words_mean ws L C) r; after : words_mean w L C ≡ after_hold (words_mean ws L C) r; spare : Spare ws w (L * C * 6) }
+        hold_stored free marked = hold_done free w same (record {
+          held_bits = λ h l. stored.held_bits h l ∙ marked.held h l ∙ ap (λ x. x || covers r.first r.hours h) (shown.held h l);
+          start_bits = λ h l. stored.start_bits h l ∙ marked.start h l ∙ ap (λ x. x || covers r.first 1 h) (shown.start h l);
+          rest = stored.rest;
+        })
+
+        pub release_stored : hours_of (row ws b) (row ws (b + 3)) r.first ≡ r.hours → Unmarked old new r.first r.hours
+            → record { kept : Kept w L C; answer : 0 ≡ release_number (words_mean ws L C) r; after : words_mean w L C ≡ after_release (words_mean ws L C) r; spare : Spare ws w (L * C * 6) }
+        release_stored live unmarked = release_done live w same (record {
+          held_bits = λ h l. stored.held_bits h l ∙ unmarked.held h l ∙ ap (λ x. x && not (covers r.first r.hours h)) (shown.held h l);
+          start_bits = λ h l. stored.start_bits h l ∙ unmarked.start h l ∙ ap (λ x. x && not (covers r.first 1 h)) (shown.start h l);
+          rest = stored.rest;
+        })
 
 -- a run that the plant cannot have
 pub hold_out : (ws : List ℕ) (L C : ℕ) (r : Run) → fits L C r ≡ false → (hold_number (words_mean ws L C) r ≡ 21) × (after_hold (words_mean ws L C) r ≡ words_mean ws L C)

@@ -1,10 +1,10 @@
 -- The hours of a run, by how far they lie ahead of its first.
-use Rattle.std.proofs.Common.{◌≡◌, ℕ, ◌+◌, ◌-◌, ◌%◌, ◌<◌, ◌≤◌, Bool, true, false, not, eqb, ltb, ap, ◌∙◌, arith}
-use Rattle.std.proofs.lemmas.Bool.{not-false, not_from_true}
+use Rattle.std.proofs.Common.{◌≡◌, ℕ, ◌+◌, ◌-◌, ◌%◌, ◌<◌, ◌≤◌, min, Bool, true, false, not, ◌&&◌, eqb, ltb, sym, refl, ap, ◌∙◌, arith}
+use Rattle.std.proofs.lemmas.Bool.{not-false, not_from_true, and_parts, and_from, eqb-true, eq-eqb}
 use Rattle.std.proofs.lemmas.Bool.Decides.{nat_tests}
 use Rattle.calendar.specs.Week.{any, later, covers}
 use Rattle.calendar.proofs.Circle.{covers_near}
-use Rattle.calendar.proofs.Sums.{any_intro, any_none, any_false}
+use Rattle.calendar.proofs.Sums.{bool_same, any_intro, any_elim, any_none, any_false, any_cong}
 
 -- how many hours it is from hour a on to hour h
 abbrev pub ahead : ℕ → ℕ → ℕ
@@ -18,6 +18,33 @@ covers_one a h p q = covers_ahead a 1 h p q ∙ one a h p q
   where
     one : (a h : ℕ) → a < 168 → h < 168 → ltb (ahead a h) 1 ≡ eqb h a
     one a h p q = grind (arith, nat_tests)
+
+-- a run by its first hour of the week, and no hour of it twice
+pub covers_turned : (a n h : ℕ) → a < 336 → h < 168 → covers (a % 168) (min n 168) h ≡ covers a n h
+covers_turned a n h p q =
+    covers_ahead (a % 168) (min n 168) h (omega arith) q
+    ∙ (let e : ahead (a % 168) h ≡ (h + 336 - a) % 168 = omega arith in turned (ahead (a % 168) h) n (omega arith) ∙ ap (λ d. ltb d n) e)
+    ∙ sym (covers_near a n h (omega arith) q)
+  where
+    turned : (d n : ℕ) → d < 168 → ltb d (min n 168) ≡ ltb d n
+    turned d n p = grind (arith, nat_tests)
+
+-- the hours of p that a run covers
+any_covered : (p : ℕ → Bool) (a n : ℕ) → any 168 (λ h. p h && covers a n h) ≡ any n (λ j. p (later a j))
+unfolding covers
+any_covered p a n =
+    bool_same (any 168 (λ h. p h && covers a n h)) (any n (λ j. p (later a j)))
+    (λ e.
+    let w = any_elim 168 (λ h. p h && covers a n h) e in
+    let b = and_parts (p w.0) (covers a n w.0) w.2 in
+    let k = any_elim n (λ j. eqb (later a j) w.0) b.1 in
+    any_intro n (λ j. p (later a j)) k.0 k.1 (ap p (eqb-true (later a k.0) w.0 k.2) ∙ b.0))
+    (λ e.
+    let k = any_elim n (λ j. p (later a j)) e in
+    any_intro 168 (λ h. p h && covers a n h) (later a k.0) (omega arith) (and_from (p (later a k.0)) _ k.2 (any_intro n (λ j. eqb (later a j) (later a k.0)) k.0 k.1 (eq-eqb (later a k.0) (later a k.0) refl))))
+
+pub any_in : (p : ℕ → Bool) (a n : ℕ) (r : ℕ → Bool) → ((h : ℕ) → h < 168 → r h ≡ covers a n h) → any 168 (λ h. p h && r h) ≡ any n (λ j. p (later a j))
+any_in p a n r e = any_cong 168 _ _ (λ h l. ap (λ b. p h && b) (e h l)) ∙ any_covered p a n
 
 -- no hour of the run has its bit set; every hour of it has
 abbrev pub Free : (ℕ → Bool) → ℕ → ℕ → Type 0

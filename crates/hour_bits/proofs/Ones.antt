@@ -1,12 +1,10 @@
 -- The ones of a word, and of the three words of a row, counted.
-use Rattle.std.proofs.Common.{◌≡◌, ℕ, zero, suc, ◌+◌, ◌-◌, ◌*◌, ◌/◌, ◌%◌, ◌^◌, ◌<◌, ◌≤◌, Bool, true, false, cond, ◌&&◌, eqb, List, get_or, sym, refl, ap, ◌∙◌, ⊎_elim, add-zero, div-one, add-one, one-add, arith, pow-add, shr-shr}
-use lib.Bits.{bit_and, mask_lt}
+use Rattle.std.proofs.Common.{◌≡◌, ℕ, zero, suc, ◌+◌, ◌/◌, ◌%◌, ◌^◌, ◌<◌, ◌≤◌, Bool, cond, eqb, List, get_or, sym, refl, ap, ◌∙◌, ⊎_elim, div-one, add-one, one-add, arith, pow-add, shr-shr}
 use lib.Count.{ones, ones_step}
-use Rattle.std.proofs.lemmas.Bool.{lt-ltb, eq-eqb, ne_eqb, cases_eq, cond_both}
+use Rattle.std.proofs.lemmas.Bool.{eq-eqb, ne_eqb, cases_eq, cond_both}
 use Rattle.calendar.specs.Week.{total}
 use Rattle.calendar.proofs.Sums.{total_cong, total_split, total_empty, total_suc, total_most}
 use Rattle.hour_bits.specs.Bits.{bit, row, bit_count}
-use Rattle.hour_bits.proofs.Words.{bit_of_and, bit_ones}
 use Rattle.hour_bits.proofs.Rows.{row_at}
 
 count : (ℕ → Bool) → ℕ → ℕ
@@ -27,10 +25,6 @@ count_one p = total_suc 0 (λ k. cond (p k) 1 0) ∙ omega (arith, total_empty (
 count_none : (p : ℕ → Bool) → count p 0 ≡ 0
 unfolding count
 count_none p = total_empty (λ k. cond (p k) 1 0)
-
-and_true : (x y : Bool) → y ≡ true → (x && y) ≡ x
-and_true true y e = e
-and_true false y e = refl
 
 digit : (n : ℕ) → cond (bit n 0) 1 0 ≡ n % 2
 digit n =
@@ -57,26 +51,24 @@ ones_count (suc w) n p =
     omega arith
 
 -- the bits of a row, from its three words
-module _ (ws : List ℕ) (base : ℕ) where
-  at_word : (j k h : ℕ) → k < 64 → h ≡ 64 * j + k → row ws base h ≡ bit (get_or ws (base + j) 0) k
-  at_word j k h l e = ap (row ws base) e ∙ row_at ws base j k l
-
-  pub row_ones : get_or ws base 0 < 2 ^ 64 → get_or ws (base + 1) 0 < 2 ^ 64
-      → ones (get_or ws base 0) + ones (get_or ws (base + 1) 0) + ones (bit_and (get_or ws (base + 2) 0) (2 ^ 40 - 1)) ≡ bit_count (row ws base)
-  unfolding bit_count count
-  row_ones fa fb =
-      let a = ones_count 64 (get_or ws base 0) fa in
-      let b = ones_count 64 (get_or ws (base + 1) 0) fb in
-      let m : bit_and (get_or ws (base + 2) 0) (2 ^ 40 - 1) < 2 ^ 40 = mask_lt (get_or ws (base + 2) 0) 40 in
-      let c = ones_count 40 (bit_and (get_or ws (base + 2) 0) (2 ^ 40 - 1)) m in
-      let s = count_split (row ws base) 64 104 in
-      let t = count_split (λ k. row ws base (64 + k)) 64 40 in
-      let x : count (row ws base) 64 ≡ count (bit (get_or ws base 0)) 64 = count_cong _ _ 64 (λ k l. at_word 0 k k l (omega arith) ∙ ap (λ i. bit (get_or ws i 0) k) (add-zero base)) in
-      let y : count (λ k. row ws base (64 + k)) 64 ≡ count (bit (get_or ws (base + 1) 0)) 64 = count_cong _ _ 64 (λ k l. at_word 1 k (64 + k) l (omega arith)) in
-      let z : count (λ k. row ws base (64 + (64 + k))) 40 ≡ count (bit (bit_and (get_or ws (base + 2) 0) (2 ^ 40 - 1))) 40 =
-      count_cong _ _ 40 (λ k l. at_word 2 k (64 + (64 + k)) (omega arith) (omega arith) ∙ sym (bit_of_and _ _ k ∙ and_true _ _ (bit_ones 40 k ∙ lt-ltb k 40 l))) in
-      omega arith
+pub row_ones : (ws : List ℕ) → get_or ws 0 0 < 2 ^ 64 → get_or ws 1 0 < 2 ^ 64 → get_or ws 2 0 < 2 ^ 40
+    → ones (get_or ws 0 0) + ones (get_or ws 1 0) + ones (get_or ws 2 0) ≡ bit_count (row ws 0)
+unfolding bit_count count
+row_ones ws fa fb fc =
+    let a = ones_count 64 (get_or ws 0 0) fa in
+    let b = ones_count 64 (get_or ws 1 0) fb in
+    let c = ones_count 40 (get_or ws 2 0) fc in
+    let s = count_split (row ws 0) 64 104 in
+    let t = count_split (λ k. row ws 0 (64 + k)) 64 40 in
+    let x : count (row ws 0) 64 ≡ count (bit (get_or ws 0 0)) 64 = count_cong _ _ 64 (λ k l. row_at ws 0 0 k k l (omega arith)) in
+    let y : count (λ k. row ws 0 (64 + k)) 64 ≡ count (bit (get_or ws 1 0)) 64 = count_cong _ _ 64 (λ k l. row_at ws 0 1 k (64 + k) l (omega arith)) in
+    let z : count (λ k. row ws 0 (64 + (64 + k))) 40 ≡ count (bit (get_or ws 2 0)) 40 = count_cong _ _ 40 (λ k l. row_at ws 0 2 k (64 + (64 + k)) (omega arith) (omega arith)) in
+    omega arith
 
 pub count_most : (p : ℕ → Bool) → bit_count p ≤ 168
 unfolding bit_count
 count_most p = total_most 168 (λ h. cond (p h) 1 0) (λ h. cond_both (p h) 1 0 (λ x. x ≤ 1) (λ _. omega arith) (λ _. omega arith))
+
+pub count_same : (p q : ℕ → Bool) → ((h : ℕ) → h < 168 → p h ≡ q h) → bit_count p ≡ bit_count q
+unfolding bit_count
+count_same p q e = total_cong 168 _ _ (λ h l. ap (λ b. cond b 1 0) (e h l))

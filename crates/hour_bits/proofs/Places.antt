@@ -2,7 +2,7 @@
 use Rattle.std.proofs.Common.{◌≡◌, ℕ, ◌+◌, ◌-◌, ◌*◌, ◌/◌, ◌%◌, ◌<◌, ◌≤◌, Bool, ◌⊎◌, List, get_or, sym, ap, ◌∙◌, inl, inr, ⊎_elim, mul_comm, arith}
 use Rattle.std.proofs.lemmas.Nat.{mul-add-lt, div-mul-add, mod-mul-add}
 use Rattle.std.proofs.lemmas.Bool.{cases_order}
-use Rattle.hour_bits.specs.Bits.{bit, row, Wrote}
+use Rattle.hour_bits.specs.Bits.{bit, row, Stored}
 use Rattle.hour_bits.specs.Tables.{base_of, held_in, start_in}
 use Rattle.hour_bits.proofs.Tables.{Within, Changed}
 
@@ -24,31 +24,17 @@ rows_apart L C l c x y w v ne =
 row_same : (ws ws' : List ℕ) (b : ℕ) → ((i : ℕ) → b ≤ i → i < b + 3 → get_or ws' i 0 ≡ get_or ws i 0) → (h : ℕ) → h < 168 → row ws' b h ≡ row ws b h
 row_same ws ws' b e h p = ap (λ x. bit x (h % 64)) (e (b + h / 64) (omega arith) (omega arith))
 
--- the two writes of a row: its held hours, then its starts
-module _ (L C : ℕ) (ws w1 w2 : List ℕ) (l c : ℕ) (w : Within L C l c) (u v : ℕ → Bool)
-    (one : Wrote ws w1 (base_of C l c) u 3) (two : Wrote w1 w2 (base_of C l c + 3) v 3) where
-  untouched : (x y : ℕ) → Within L C x y → ((x ≡ l) × (y ≡ c) → ⊥) → (i : ℕ) → base_of C x y ≤ i → i < base_of C x y + 6 → get_or w2 i 0 ≡ get_or ws i 0
-  untouched x y i ne k p q =
-      ⊎_elim (λ s. two.rest k (inl (omega arith)) ∙ one.rest k (inl (omega arith)))
-      (λ s. two.rest k (inr (omega arith)) ∙ one.rest k (inr (omega arith)))
-      (rows_apart L C l c x y w i ne)
+-- a row that is written
+module _ (L C : ℕ) (ws w : List ℕ) (l c : ℕ) (at : Within L C l c) (u v : ℕ → Bool) (new : Stored ws w (base_of C l c) u v) where
+  untouched : (x y : ℕ) → Within L C x y → ((x ≡ l) × (y ≡ c) → ⊥) → (i : ℕ) → base_of C x y ≤ i → i < base_of C x y + 6 → get_or w i 0 ≡ get_or ws i 0
+  untouched x y i ne k p q = new.rest k (⊎_elim (λ s. inl (omega arith)) (λ s. inr (omega arith)) (rows_apart L C l c x y at i ne))
 
-  pub held_changed : Changed L C (held_in ws C) (held_in w2 C) l c u
-  held_changed = record {
-    here = λ h p. row_same w1 w2 (base_of C l c) (λ i r s. two.rest i (inl s)) h p ∙ one.bits h p (omega arith);
-    there = λ x y i ne. row_same ws w2 (base_of C x y) (λ k r s. untouched x y i ne k r (omega arith));
-  }
+  pub held_changed : Changed L C (held_in ws C) (held_in w C) l c u
+  held_changed = record { here = new.held_bits; there = λ x y i ne. row_same ws w (base_of C x y) (λ k r s. untouched x y i ne k r (omega arith)) }
 
-  start_kept : (h : ℕ) → h < 168 → row w1 (base_of C l c + 3) h ≡ row ws (base_of C l c + 3) h
-  start_kept = row_same ws w1 (base_of C l c + 3) (λ i r s. one.rest i (inr r))
-
-  pub start_changed : (v' : ℕ → Bool) → ((h : ℕ) → row w1 (base_of C l c + 3) h ≡ row ws (base_of C l c + 3) h → v h ≡ v' h)
-      → Changed L C (start_in ws C) (start_in w2 C) l c v'
-  start_changed v' e = record {
-    here = λ h p. two.bits h p (omega arith) ∙ e h (start_kept h p);
-    there = λ x y i ne. row_same ws w2 (base_of C x y + 3) (λ k r s. untouched x y i ne k (omega arith) (omega arith));
-  }
+  pub start_changed : Changed L C (start_in ws C) (start_in w C) l c v
+  start_changed = record { here = new.start_bits; there = λ x y i ne. row_same ws w (base_of C x y + 3) (λ k r s. untouched x y i ne k (omega arith) (omega arith)) }
 
   -- no word past the rows is written
-  pub past_rows : (i : ℕ) → L * C * 6 ≤ i → get_or w2 i 0 ≡ get_or ws i 0
-  past_rows i p = let f = row_fits L C l c w in two.rest i (inr (omega arith)) ∙ one.rest i (inr (omega arith))
+  pub past_rows : (i : ℕ) → L * C * 6 ≤ i → get_or w i 0 ≡ get_or ws i 0
+  past_rows i p = let f = row_fits L C l c at in new.rest i (inr (omega arith))

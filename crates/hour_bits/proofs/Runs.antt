@@ -14,7 +14,7 @@ pub record RunAt (held start : ℕ → Bool) (f n : ℕ) : Type 0 where
   pub goes : (h : ℕ) → h < 168 → 0 < ahead f h → ahead f h < n → (held h ≡ true) × (start h ≡ false)
   pub ends : (h : ℕ) → h < 168 → ahead f h ≡ n → held h ≡ true → start h ≡ true
 
-second_false : (x y : Bool) → x ≡ true → (x && y) ≡ false → y ≡ false
+pub second_false : (x y : Bool) → x ≡ true → (x && y) ≡ false → y ≡ false
 second_false true y p q = q
 second_false false y p q = absurd (both_ways false refl p)
 

@@ -51,7 +51,7 @@ module _ (H S H' S' : ℕ → Bool) (eh : (h : ℕ) → h < 168 → H' h ≡ H h
     ends = λ h p u v. es h p ∙ r.ends h p u (sym (eh h p) ∙ v);
   }
 
-  same_hours : (f : ℕ) → f < 168 → hours_of H' S' f ≡ hours_of H S f
+  pub same_hours : (f : ℕ) → f < 168 → hours_of H' S' f ≡ hours_of H S f
   same_hours f q =
       ⊎_elim (λ y. hours_are H' S' q (same_run f _ q (run_there H S f q y)))
       (λ y. hours_none H' S' f (es f q ∙ y) ∙ sym (hours_none H S f y)) (cases_Bool (S f))

@@ -1,13 +1,14 @@
 -- The bits of words.
 use Rattle.std.proofs.Common.{◌≡◌, ℕ, zero, suc, ◌+◌, ◌-◌, ◌*◌, ◌/◌, ◌%◌, ◌^◌, ◌<◌, ◌≤◌, min, max, true, false, not, ◌&&◌, ◌||◌, eqb, ltb, sym, ap, ◌∙◌, ⊎_elim, mod-eq_of_lt, add-one, arith, lit<, pow_pos, pow_mono, pow-add}
 use native.Mathlib.Nat.{div-eq_of_lt, div-eq_of_lt-le}
-use lib.Bits.{bit_and, bit_or, bit_xor, and_step, or_step, and_shr, or_shr, and_mask, and_comm, and_le_l, xor_add_and, xor_step, xor_shr, differ}
+use lib.Bits.{bit_and, bit_or, bit_xor, and_step, or_step, and_shr, or_shr, and_mask, and_comm, xor_add_and, xor_step, xor_shr, differ}
 use lib.Pow.{ones_split, ones_lt, high}
-use Rattle.std.proofs.lemmas.Bool.{cases_lt, cases_Bool, both_ways, and_from, and_parts, eqb-true, lt-ltb, le-ltb, eq-eqb, ne_eqb}
+use Rattle.std.proofs.lemmas.Bool.{cases_lt, cases_eq, eqb-true, lt-ltb, le-ltb, eq-eqb, ne_eqb}
 use Rattle.std.proofs.lemmas.Bool.Decides.{nat_tests}
 use Rattle.hour_bits.specs.Bits.{bit}
 use Rattle.hour_bits.proofs.Circle.{ahead, covers_ahead}
-use Rattle.calendar.specs.Week.{covers}
+use Rattle.calendar.specs.Week.{any, covers}
+use Rattle.calendar.proofs.Sums.{any_intro, any_false}
 use Rattle.calendar.proofs.Circle.{covers_late}
 
 digit_or : (u v w : ℕ) → u < 2 → v < 2 → w ≡ max u v → eqb w 1 ≡ (eqb u 1 || eqb v 1)
@@ -77,17 +78,16 @@ some_bit (suc w) x p q =
 pub bit_zero : (k : ℕ) → bit 0 k ≡ false
 bit_zero k = let z : 0 / 2 ^ k ≡ 0 = let s = pow_pos k in div-eq_of_lt s in ne_eqb _ 1 (λ e. omega arith)
 
--- the bits that two words share
-pub apart_bits : (x m : ℕ) → bit_and x m ≡ 0 → (k : ℕ) → bit m k ≡ true → bit x k ≡ false
-apart_bits x m e k y =
-    ⊎_elim (λ z. absurd (both_ways _ (bit_zero k) (ap (λ v. bit v k) (sym e) ∙ bit_of_and x m k ∙ and_from _ _ z y))) (λ z. z) (cases_Bool (bit x k))
+pub bit_high : (w x k : ℕ) → x < 2 ^ w → w ≤ k → bit x k ≡ false
+bit_high w x k p l = let z : x / 2 ^ k ≡ 0 = let s = pow_mono l in div-eq_of_lt (omega arith) in ne_eqb _ 1 (λ e. omega arith)
 
-pub shared_bit : (x m : ℕ) → x < 2 ^ 64 → (bit_and x m ≡ 0 → ⊥) → (k : ℕ) × (k < 64) × (bit x k ≡ true) × (bit m k ≡ true)
-shared_bit x m p ne =
-    let l = and_le_l x m in
-    let r = some_bit 64 (bit_and x m) (omega arith) (omega arith) in
-    let b = and_parts (bit x r.0) (bit m r.0) (sym (bit_of_and x m r.0) ∙ r.2) in
-    (r.0, r.1, b.0, b.1)
+-- a number is not 0 where it has a bit
+pub some_bits : (w x : ℕ) → x < 2 ^ w → not (eqb x 0) ≡ any w (bit x)
+some_bits w x p =
+    ⊎_elim
+    (λ (z : x ≡ 0). rw (eq-eqb x 0 z) (sym (any_false w (bit x) (λ k l. ap (λ y. bit y k) z ∙ bit_zero k))))
+    (λ z. let r = some_bit w x p (omega (arith, z)) in rw (ne_eqb x 0 z) (sym (any_intro w (bit x) r.0 r.1 r.2)))
+    (cases_eq x 0)
 
 -- the bits of a run in the word j of a row, from the part up to Sunday night and the part after it
 module _ (j a n k lo hi w : ℕ) (pa : a < 168) (pn : n ≤ 168) (from : lo ≡ a - 64 * j) (to : hi ≡ min (a + n) 168 - 64 * j) (over : w ≡ a + n - 168 - 64 * j) where

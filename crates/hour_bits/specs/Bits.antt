@@ -4,17 +4,22 @@
 --   row ws base h            the bit of hour h in the row of three words from base on
 --   more_hours p f n h       the bit of hour h after the n hours from f on are set
 --   fewer_hours p f n h      the bit of hour h after the n hours from f on are cleared
---   Wrote ws ws' base new j  of the row at base, j words are written, with the bits that new gives
---   Marked ws ws' base f n   the run of n hours from f on is written into the six words at base
---   Unmarked ws ws' base f n the run is cleared out of them
+--   bits s h                 the hour h is in the set s
+--   Shown ws base r          the six words at base have the bits of the live runs r
+--   Stored ws ws' base p q   the six words at base are written, with the bits of p and then of q, and no other
+--   Marked r r' f n          the run of n hours from f on is put into the live runs r
+--   Unmarked r r' f n        the run is taken out of them
 --   bit_count p              how many hours of the week have their bit set
 --   first_set p f n          the first of the n hours from f on with its bit set, if any
 --   goes_on held start h     a run that started at an earlier hour covers hour h
 --   lasts held start f       how many hours a run that starts at hour f has
 --   hours_of held start f    the hours of the run that starts at hour f; 0 where none does
+--   has_run held start f n   a run of n hours starts at hour f
 --   SoundRow held start      the bits stand for runs
-use Rattle.std.specs.Prelude.{◌≡◌, ℕ, suc, ◌+◌, ◌*◌, ◌/◌, ◌%◌, ◌^◌, ◌<◌, ◌≤◌, Bool, true, false, cond, not, ◌&&◌, ◌||◌, ◌⊎◌, List, Some, None, Option, ◌==◌, nat_lt, slice_index}
+use Rattle.std.specs.Prelude.{◌≡◌, ℕ, suc, ◌+◌, ◌/◌, ◌%◌, ◌^◌, ◌<◌, ◌≤◌, Bool, true, false, cond, not, ◌&&◌, ◌||◌, ◌⊎◌, List, Some, None, Option, ◌==◌, nat_le, nat_lt, slice_index}
 use Rattle.calendar.specs.Week.{any, total, least, later, covers}
+use Rattle.hour_bits.specs.declared.row.LiveRuns.{LiveRuns}
+use Rattle.hour_bits.specs.declared.set.HourSet.{HourSet}
 
 abbrev pub bit : ℕ → ℕ → Bool
 bit w k = w / 2 ^ k % 2 == 1
@@ -28,22 +33,19 @@ more_hours p f n h = p h || covers f n h
 abbrev pub fewer_hours : (ℕ → Bool) → ℕ → ℕ → ℕ → Bool
 fewer_hours p f n h = p h && not (covers f n h)
 
--- no word but the j written ones has changed
-pub record Wrote (ws ws' : List ℕ) (base : ℕ) (new : ℕ → Bool) (j : ℕ) : Type 0 where
-  pub bits : (h : ℕ) → h < 168 → h < 64 * j → row ws' base h ≡ new h
-  pub rest : (i : ℕ) → (i < base) ⊎ (base + j ≤ i) → slice_index ws' i ≡ slice_index ws i
+abbrev pub bits : HourSet → ℕ → Bool
+bits s = row s.words 0
 
--- A run is written into its six words: its hours are set in the row at base, its first hour in the row after it.
-pub record Marked (ws ws' : List ℕ) (base f n : ℕ) : Type 0 where
-  pub between : List ℕ
-  pub held : Wrote ws between base (more_hours (row ws base) f n) 3
-  pub start : Wrote between ws' (base + 3) (more_hours (row between (base + 3)) f 1) 3
+-- the held hours stand before the starts
+pub record Shown (ws : List ℕ) (base : ℕ) (r : LiveRuns) : Type 0 where
+  pub held : (h : ℕ) → h < 168 → bits r.held h ≡ row ws base h
+  pub start : (h : ℕ) → h < 168 → bits r.starts h ≡ row ws (base + 3) h
 
--- A run is cleared out of its six words.
-pub record Unmarked (ws ws' : List ℕ) (base f n : ℕ) : Type 0 where
-  pub between : List ℕ
-  pub held : Wrote ws between base (fewer_hours (row ws base) f n) 3
-  pub start : Wrote between ws' (base + 3) (fewer_hours (row between (base + 3)) f 1) 3
+-- no word but the six has changed
+pub record Stored (ws ws' : List ℕ) (base : ℕ) (held start : ℕ → Bool) : Type 0 where
+  pub held_bits : (h : ℕ) → h < 168 → row ws' base h ≡ held h
+  pub start_bits : (h : ℕ) → h < 168 → row ws' (base + 3) h ≡ start h
+  pub rest : (i : ℕ) → (i < base) ⊎ (base + 6 ≤ i) → slice_index ws' i ≡ slice_index ws i
 
 unfoldable pub bit_count : (ℕ → Bool) → ℕ
 bit_count p = total 168 (λ h. cond (p h) 1 0)
@@ -62,6 +64,20 @@ lasts held start f = suc (least 167 (λ j. not (goes_on held start (later f (suc
 
 abbrev pub hours_of : (ℕ → Bool) → (ℕ → Bool) → ℕ → ℕ
 hours_of held start f = cond (start f) (lasts held start f) 0
+
+-- A run is put in: its hours are held now, and it starts in its first.
+pub record Marked (r r' : LiveRuns) (f n : ℕ) : Type 0 where
+  pub held : (h : ℕ) → h < 168 → bits r'.held h ≡ more_hours (bits r.held) f n h
+  pub start : (h : ℕ) → h < 168 → bits r'.starts h ≡ more_hours (bits r.starts) f 1 h
+
+-- A run is taken out: none of its hours is held now, and none starts in its first.
+pub record Unmarked (r r' : LiveRuns) (f n : ℕ) : Type 0 where
+  pub held : (h : ℕ) → h < 168 → bits r'.held h ≡ fewer_hours (bits r.held) f n h
+  pub start : (h : ℕ) → h < 168 → bits r'.starts h ≡ fewer_hours (bits r.starts) f 1 h
+
+-- exactly the run of n hours from f on is live
+abbrev pub has_run : (ℕ → Bool) → (ℕ → Bool) → ℕ → ℕ → Bool
+has_run held start f n = (nat_le 1 n && nat_le n 168) && hours_of held start f == n
 
 -- A start is held, an hour in which a run goes on has a held hour before it, and not every hour is one in which a
 -- run goes on: so each held hour belongs to a run with a start.

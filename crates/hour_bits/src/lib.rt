@@ -1,5 +1,5 @@
 #![tactic(auto)]
 
-pub mod change;
 pub mod row;
+pub mod set;
 pub mod word;

@@ -1,150 +1,134 @@
-ghost use Rattle.std.specs.Prelude.{◌≡◌, ◌+◌, ◌*◌, ◌<◌, ◌≤◌, true, not, length, ◌==◌};
-ghost use Rattle.calendar.specs.Week.{any, total, least, later};
-ghost use Rattle.hour_bits.specs.Bits.{row, bit_count, first_set, goes_on, lasts, hours_of};
+ghost use Rattle.std.specs.Prelude.{◌≡◌, ℕ, ◌+◌, ◌<◌, ◌≤◌, not, ◌==◌, true, List, length, sum_by};
+ghost use Rattle.calendar.specs.Week.{any, later};
+ghost use Rattle.hour_bits.specs.Bits.{row, bits, bit_count, goes_on, lasts, has_run, first_set, Shown, Stored, Marked, Unmarked};
 
-use crate::word::{bit_of, run_mask};
+use crate::set::HourSet;
 use calendar::hours::hour_after;
+use calendar::run::Run;
 
-// The bit of one hour in the row of three words at `base`.
-pub fn row_bit(words: &[u64], base: usize, hour: usize) -> bool
-    requires { (base + 3 ≤ length words.now) × (hour < 168) }
-    ensures { result ≡ row words.now base hour }
-{
-    bit_of(words[base + hour / 64], hour % 64)
+// The live runs of one channel of one link: the hours they hold, and the hours in which one starts.
+#[derive(Clone, Copy, Debug, PartialEq, Eq)]
+pub struct LiveRuns {
+    pub held: HourSet,
+    pub starts: HourSet,
 }
 
-// Whether some hour of the run has its bit set.
-fn some_set(words: &[u64], base: usize, first: usize, hours: usize) -> bool
-    requires { (base + 3 ≤ length words.now) × ((first < 168) × (hours ≤ 168)) }
-    ensures { result ≡ any hours (λ j. row words.now base (later first j)) }
-{
-    for j in 0..3 {
-        if words[base + j] & run_mask(j, first, hours) != 0 {
-            return true;
+impl LiveRuns {
+    // The live runs that the six words at `base` show: the held hours, then the starts.
+    pub fn load(words: &[u64], base: usize) -> LiveRuns
+        requires { base + 6 ≤ length words.now }
+        ensures { Shown words.now base result }
+    {
+        LiveRuns {
+            held: HourSet::load(words, base),
+            starts: HourSet::load(words, base + 3),
         }
     }
-    false
-}
 
-// Whether some hour of the run has its bit clear.
-fn some_clear(words: &[u64], base: usize, first: usize, hours: usize) -> bool
-    requires { (base + 3 ≤ length words.now) × ((first < 168) × (hours ≤ 168)) }
-    ensures { result ≡ any hours (λ j. not (row words.now base (later first j))) }
-{
-    for j in 0..3 {
-        if !words[base + j] & run_mask(j, first, hours) != 0 {
-            return true;
+    // Writes them into the six words at `base`.
+    pub fn store(self, words: &mut [u64], base: usize)
+        requires { base + 6 ≤ length words.old }
+        ensures { Stored words.old words.new base (bits self.held) (bits self.starts) }
+    {
+        words[base..base + 3].copy_from_slice(&self.held.words);
+        words[base + 3..base + 6].copy_from_slice(&self.starts.words);
+    }
+
+    // Whether no hour of the run is held.
+    pub fn is_free(self, run: Run) -> bool
+        ensures { result ≡ not (any run.hours (λ j. bits self.held (later run.first j))) }
+    {
+        !self.held.meets_run(run.first, run.hours)
+    }
+
+    // The first held hour of the run, if any. Only a run that is not free is walked through.
+    pub fn first_held(self, run: Run) -> Option<u8>
+        ensures { result ≡ first_set (bits self.held) run.first run.hours }
+    {
+        if self.is_free(run) {
+            return None;
+        }
+        self.held.first_in(run.first, run.hours)
+    }
+
+    // Whether the hour is held and no run starts in it.
+    fn goes_on(self, hour: u8) -> bool
+        ensures { result ≡ goes_on (bits self.held) (bits self.starts) hour }
+    {
+        self.held.has(hour) && !self.starts.has(hour)
+    }
+
+    // Whether the run that starts where this one does has as many hours.
+    fn lasts(self, run: Run) -> bool
+        requires some { 1 ≤ run.hours }
+        requires most { run.hours ≤ 168 }
+        requires starts { bits self.starts run.first ≡ true }
+        ensures { result ≡ (lasts (bits self.held) (bits self.starts) run.first == run.hours) }
+    {
+        let rest = HourSet::run(hour_after(run.first, 1), run.hours - 1);
+        self.held.is_superset(rest)
+            && !self.starts.meets(rest)
+            && (run.hours == 168 || !self.goes_on(hour_after(run.first, run.hours)))
+    }
+
+    // Whether exactly this run is live.
+    pub fn is_live(self, run: Run) -> bool
+        ensures { result ≡ has_run (bits self.held) (bits self.starts) run.first run.hours }
+    {
+        (1..=168).contains(&run.hours) && self.starts.has(run.first) && self.lasts(run)
+    }
+
+    // The live runs with this one put in.
+    pub fn hold(self, run: Run) -> LiveRuns
+        ensures { Marked self result run.first run.hours }
+    {
+        LiveRuns {
+            held: self.held.with(HourSet::run(run.first, run.hours)),
+            starts: self.starts.with(HourSet::run(run.first, 1)),
         }
     }
-    false
-}
 
-// Whether no hour of the run has its bit set.
-pub fn run_clear(words: &[u64], base: usize, first: usize, hours: usize) -> bool
-    requires { (base + 3 ≤ length words.now) × ((first < 168) × (hours ≤ 168)) }
-    ensures { result ≡ not (any hours (λ j. row words.now base (later first j))) }
-{
-    !some_set(words, base, first, hours)
-}
-
-// How many hours of the run come before the first with its bit set; all of them where there is none.
-fn hours_before(words: &[u64], base: usize, first: u8, hours: u8) -> u8
-    requires { base + 3 ≤ length words.now }
-    ensures { result ≡ least hours (λ j. row words.now base (later first j)) }
-{
-    for j in 0..hours {
-        if row_bit(words, base, hour_after(first, j) as usize) {
-            return j;
+    // The live runs with this one taken out.
+    pub fn release(self, run: Run) -> LiveRuns
+        ensures { Unmarked self result run.first run.hours }
+    {
+        LiveRuns {
+            held: self.held.without(HourSet::run(run.first, run.hours)),
+            starts: self.starts.without(HourSet::run(run.first, 1)),
         }
     }
-    hours
 }
 
-// The first hour of the run that has its bit set, if any.
-pub fn first_set(words: &[u64], base: usize, first: u8, hours: u8) -> Option<u8>
-    requires { base + 3 ≤ length words.now }
-    ensures { result ≡ first_set (row words.now base) first hours }
+// How many bits are set in the row of three words at `at`.
+fn row_count(words: &[u64], at: usize) -> u32
+    requires { at + 3 ≤ length words.now }
+    ensures most { result ≤ 168 }
+    ensures is { result ≡ bit_count (row words.now at) }
 {
-    let before = hours_before(words, base, first, hours);
-    if before < hours {
-        Some(hour_after(first, before))
-    } else {
-        None
-    }
+    HourSet::load(words, at).count()
 }
 
-// Whether a run that started earlier covers the hour, by the held bits at `base` and the start bits after them.
-fn run_goes_on(words: &[u64], base: usize, hour: usize) -> bool
-    requires { (base + 6 ≤ length words.now) × (hour < 168) }
-    ensures { result ≡ goes_on (row words.now base) (row words.now (base + 3)) hour }
+// How many bits are set in the rows at `at`, one of each six words.
+fn count_rows(rows: &[[u64; 6]], at: usize) -> u32
+    requires few { length rows.now ≤ 640 }
+    requires inside { at ≤ 3 }
+    ensures { result ≡ sum_by (λ (r : List ℕ). bit_count (row r at)) rows.now }
 {
-    row_bit(words, base, hour) & !row_bit(words, base + 3, hour)
+    rows.iter().map(|row| row_count(row, at)).sum()
 }
 
-// Whether the run that starts at `first` has exactly `hours`.
-fn run_lasts(words: &[u64], base: usize, first: usize, hours: usize) -> bool
-    requires fits { (base + 6 ≤ length words.now) × ((first < 168) × ((1 ≤ hours) × (hours ≤ 168))) }
-    requires starts { row words.now (base + 3) first ≡ true }
-    ensures { result ≡ (lasts (row words.now base) (row words.now (base + 3)) first == hours) }
+// How many hours are held, over the six words of each of some channels.
+pub fn count_held(rows: &[[u64; 6]]) -> u32
+    requires { length rows.now ≤ 640 }
+    ensures { result ≡ sum_by (λ (r : List ℕ). bit_count (row r 0)) rows.now }
 {
-    let next = (first + 1) % 168;
-    if some_clear(words, base, next, hours - 1) {
-        return false;
-    }
-    if some_set(words, base + 3, next, hours - 1) {
-        return false;
-    }
-    if hours < 168 {
-        return !run_goes_on(words, base, (first + hours) % 168);
-    }
-    true
+    count_rows(rows, 0)
 }
 
-// Whether a run of exactly `hours` starts at `first`, by the held bits at `base` and the start bits after them.
-pub fn run_live(words: &[u64], base: usize, first: usize, hours: usize) -> bool
-    requires { (base + 6 ≤ length words.now) × ((first < 168) × ((1 ≤ hours) × (hours ≤ 168))) }
-    ensures { result ≡ (hours_of (row words.now base) (row words.now (base + 3)) first == hours) }
+// How many runs are live, over the six words of each of some channels.
+pub fn count_starts(rows: &[[u64; 6]]) -> u32
+    requires { length rows.now ≤ 640 }
+    ensures { result ≡ sum_by (λ (r : List ℕ). bit_count (row r 3)) rows.now }
 {
-    if row_bit(words, base + 3, first) {
-        run_lasts(words, base, first, hours)
-    } else {
-        false
-    }
-}
-
-// How many hours of the row have their bit set. The third word has the last 40.
-fn row_count(words: &[u64], base: usize) -> u32
-    requires { base + 3 ≤ length words.now }
-    ensures { result ≡ bit_count (row words.now base) }
-{
-    let early = words[base].count_ones() + words[base + 1].count_ones();
-    early + (words[base + 2] & 0xff_ffff_ffff).count_ones()
-}
-
-// How many bits are set in so many rows, each six words after the one before.
-fn count_rows(words: &[u64], base: usize, rows: usize) -> u32
-    requires { (base + rows * 6 ≤ length words.now + 3) × (rows ≤ 640) }
-    ensures { result ≡ total rows (λ i. bit_count (row words.now (base + i * 6))) }
-{
-    let mut count = 0u32;
-    for i in 0..rows {
-        count += row_count(words, base + i * 6);
-    }
-    count
-}
-
-// How many held bits are set in so many links and channels, from the one at `base` on.
-pub fn count_held(words: &[u64], base: usize, rows: usize) -> u32
-    requires { (base + rows * 6 ≤ length words.now) × (rows ≤ 640) }
-    ensures { result ≡ total rows (λ i. bit_count (row words.now (base + i * 6))) }
-{
-    count_rows(words, base, rows)
-}
-
-// How many start bits are set in the first so many links and channels: as many runs are live there.
-pub fn count_starts(words: &[u64], rows: usize) -> u32
-    requires { (rows * 6 ≤ length words.now) × (rows ≤ 640) }
-    ensures { result ≡ total rows (λ i. bit_count (row words.now (3 + i * 6))) }
-{
-    count_rows(words, 3, rows)
+    count_rows(rows, 3)
 }

@@ -44,7 +44,9 @@ fn next_week(end: usize) -> usize
 
 // The hours of a run that lie in word j of a row.
 pub(crate) fn run_mask(j: usize, first: usize, hours: usize) -> u64
-    requires { (j < 3) × ((first < 168) × (hours ≤ 168)) }
+    requires word { j < 3 }
+    requires first { first < 168 }
+    requires most { hours ≤ 168 }
     ensures { (k : ℕ) → k < 64 → bit result k ≡ covers first hours (64 * j + k) }
 {
     let from = 64 * j;

@@ -1,6 +1,6 @@
-ghost use Rattle.std.specs.Prelude.{◌≡◌, ℕ, ◌*◌, ◌<◌, ◌≤◌, true, false, vec_len, MatchOption, MatchResult, slice_index};
+ghost use Rattle.std.specs.Prelude.{◌≡◌, ℕ, ◌*◌, ◌<◌, ◌≤◌, false, length, slice_index, vec_len, MatchResult};
 ghost use Rattle.calendar.specs.Numbers.{refusal_number, answer_number, making_number};
-ghost use Rattle.calendar.specs.Making.{open_plant, sizes_fit, map_number};
+ghost use Rattle.calendar.specs.Making.{open_plant, map_number};
 ghost use Rattle.calendar.specs.Meaning.{fits, hold_number, after_hold, release_number, after_release};
 ghost use Rattle.hour_bits.specs.Tables.{Placed, FreeAt, LiveAt, Spare};
 ghost use Rattle.bitmap.specs.Means.{map_means, Spares};
@@ -8,49 +8,43 @@ ghost use Rattle.bitmap.specs.Means.{map_means, Spares};
 use super::{Map, RefusedWords};
 use calendar::refusal::{MakingRefusal, PlantRefusal};
 use calendar::run::{Run, sizes_fit};
-use hour_bits::change::{mark_run, unmark_run};
-use hour_bits::row::{run_clear, run_live};
+use hour_bits::row::LiveRuns;
+use plant::Plant;
 
 // Clears the first `count` words.
-fn wipe(words: &mut Vec<u64>, count: usize)
-    requires { count ≤ vec_len words.old }
-    ensures zero { (i : ℕ) → i < count → slice_index words.new.items i ≡ 0 }
-    ensures spare { Spare words.old.items words.new.items count }
+fn wipe(words: &mut [u64], count: usize)
+    requires { count ≤ length words.old }
+    ensures zero { (i : ℕ) → i < count → slice_index words.new i ≡ 0 }
+    ensures spare { Spare words.old words.new count }
 {
-    for i in 0..count {
-        words[i] = 0;
-    }
+    words[..count].fill(0);
 }
 
-// Six words for each link and channel.
-fn words_needed(links: u32, channels: u32) -> usize
-    requires { sizes_fit links channels ≡ true }
-    ensures { result ≡ links * channels * 6 }
-{
-    links as usize * channels as usize * 6
-}
-
-// Why no map of that size can be made over so many words, if so.
-fn refusal(words: usize, links: u32, channels: u32) -> Option<MakingRefusal>
-    ensures { MatchOption result (map_number links channels words ≡ 0) (λ why. map_number links channels words ≡ making_number why) }
+// How many of so many words a map of that size needs, six for each link and channel, or why none can be made.
+fn words_needed(words: usize, links: u32, channels: u32) -> Result<usize, MakingRefusal>
+    ensures { MatchResult result
+        (λ needed. (map_number links channels words ≡ 0) × (needed ≡ links * channels * 6))
+        (λ why. map_number links channels words ≡ making_number why) }
 {
     if !sizes_fit(links, channels) {
-        return Some(MakingRefusal::BadSizes);
+        return Err(MakingRefusal::BadSizes);
     }
-    if words < words_needed(links, channels) {
-        return Some(MakingRefusal::BadMemory);
+    let needed = links as usize * channels as usize * 6;
+    if words < needed {
+        return Err(MakingRefusal::BadMemory);
     }
-    None
+    Ok(needed)
 }
 
 // A map with no live run.
-fn make(words: Vec<u64>, links: u32, channels: u32) -> Map
-    requires { map_number links channels (vec_len words) ≡ 0 }
+fn make(words: Vec<u64>, needed: usize, links: u32, channels: u32) -> Map
+    requires sized { map_number links channels (vec_len words) ≡ 0 }
+    requires six { needed ≡ links * channels * 6 }
     ensures means { map_means result ≡ open_plant links channels (links * channels * 168) }
     ensures spare { Spare words.items result.words.items (links * channels * 6) }
 {
     let mut words = words;
-    wipe(&mut words, words_needed(links, channels));
+    wipe(&mut words, needed);
     Map {
         words,
         links: links as u8,
@@ -65,9 +59,9 @@ impl Map {
             (λ m. (map_number links channels (vec_len words) ≡ 0) × (map_means m ≡ open_plant links channels (links * channels * 168)) × Spare words.items m.words.items (links * channels * 6))
             (λ e. (map_number links channels (vec_len words) ≡ making_number e.why) × (e.words ≡ words)) }
     {
-        match refusal(words.len(), links, channels) {
-            Some(why) => Err(RefusedWords { why, words }),
-            None => Ok(make(words, links, channels)),
+        match words_needed(words.len(), links, channels) {
+            Ok(needed) => Ok(make(words, needed, links, channels)),
+            Err(why) => Err(RefusedWords { why, words }),
         }
     }
 
@@ -83,16 +77,16 @@ impl Map {
         words
     }
 
-    // Where the six words of the run's link and channel begin; none where the map cannot have the run.
-    pub(crate) fn place(&self, run: Run) -> Option<usize>
-        ensures { MatchOption result
-            (fits self.now.links self.now.channels run ≡ false)
-            (λ base. Placed self.now.words.items self.now.links self.now.channels run base) }
+    // Where the six words of the run's link and channel begin, if the map can have the run.
+    pub(crate) fn place(&self, run: Run) -> Result<usize, PlantRefusal>
+        ensures { MatchResult result
+            (λ base. Placed self.now.words.items self.now.links self.now.channels run base)
+            (λ why. (why ≡ PlantRefusal.OutOfRange) × (fits self.now.links self.now.channels run ≡ false)) }
     {
-        if !run.fits(self.sizes()) {
-            return None;
+        if !run.fits(self.size()) {
+            return Err(PlantRefusal::OutOfRange);
         }
-        Some(((run.link as usize - 1) * self.channels as usize + (run.channel as usize - 1)) * 6)
+        Ok(((run.link as usize - 1) * self.channels as usize + (run.channel as usize - 1)) * 6)
     }
 
     // Where the run can be held, or why it cannot. A free run always has room: the limit is the number of cells.
@@ -101,10 +95,8 @@ impl Map {
             (λ base. FreeAt self.now.words.items self.now.links self.now.channels run base)
             (λ why. (hold_number (map_means self.now) run ≡ refusal_number why) × (after_hold (map_means self.now) run ≡ map_means self.now)) }
     {
-        let Some(base) = self.place(run) else {
-            return Err(PlantRefusal::OutOfRange);
-        };
-        if !run_clear(&self.words, base, run.first as usize, run.hours as usize) {
+        let base = self.place(run)?;
+        if !LiveRuns::load(&self.words, base).is_free(run) {
             return Err(PlantRefusal::CellHeld);
         }
         Ok(base)
@@ -116,10 +108,8 @@ impl Map {
             (λ base. LiveAt self.now.words.items self.now.links self.now.channels run base)
             (λ why. (release_number (map_means self.now) run ≡ refusal_number why) × (after_release (map_means self.now) run ≡ map_means self.now)) }
     {
-        let Some(base) = self.place(run) else {
-            return Err(PlantRefusal::OutOfRange);
-        };
-        if !run_live(&self.words, base, run.first as usize, run.hours as usize) {
+        let base = self.place(run)?;
+        if !LiveRuns::load(&self.words, base).is_live(run) {
             return Err(PlantRefusal::NoSuchRun);
         }
         Ok(base)
@@ -132,12 +122,8 @@ impl Map {
         ensures after { map_means self.new ≡ after_hold (map_means self.old) run }
         ensures spare { Spares self.old self.new }
     {
-        mark_run(
-            &mut self.words,
-            base,
-            run.first as usize,
-            run.hours as usize,
-        );
+        let more = LiveRuns::load(&self.words, base).hold(run);
+        more.store(&mut self.words, base);
     }
 
     // Clears a live run out of its words.
@@ -147,12 +133,8 @@ impl Map {
         ensures after { map_means self.new ≡ after_release (map_means self.old) run }
         ensures spare { Spares self.old self.new }
     {
-        unmark_run(
-            &mut self.words,
-            base,
-            run.first as usize,
-            run.hours as usize,
-        );
+        let fewer = LiveRuns::load(&self.words, base).release(run);
+        fewer.store(&mut self.words, base);
     }
 
     // Adds exactly this run to the live ones, or refuses. Words past those needed are left alone.

@@ -1,20 +1,22 @@
-use Rattle.std.proofs.Common.{not, sym, ap, ◌∙◌}
-use Rattle.std.proofs.lemmas.Bool.{not-true, not-false}
-use Rattle.calendar.specs.Week.{any, later}
-use Rattle.hour_bits.specs.Bits.{row}
-use Rattle.hour_bits.proofs.Calls.{hold_out, hold_taken}
+use Rattle.std.proofs.Common.{◌≡◌, Err, ◌∙◌, sym, ap, subst, rules}
+use Rattle.calendar.specs.Numbers.{refusal_number}
+use Rattle.hour_bits.specs.Bits.{Shown}
+use Rattle.hour_bits.proofs.Calls.{hold_out, taken_shown, free_shown}
 use Rattle.hour_bits.proofs.Keeping.{kept_of}
 use Rattle.bitmap.proofs.map.Map.free_place.Goals as goal
 
-pub returns-in_default : goal.returns-in_default
-returns-in_default c = let m = c.args.self.now in hold_out m.words.items m.links m.channels c.args.run c.in_default.ensures
+pub returns-in_err-base : goal.returns-in_err-base
+returns-in_err-base c = let m = c.args.self.now in
+    let e : c.from_residual.result ≡ Err c.in_err-base.field-0.0 = search rules in
+    let o = hold_out m.words.items m.links m.channels c.args.run c.in_err-base.ensures.1 in
+    rw e (o.0 ∙ sym (ap refusal_number c.in_err-base.ensures.0), o.1)
 
-pub returns-then-not-run_clear : goal.returns-then-not-run_clear
-returns-then-not-run_clear c = let m = c.args.self.now in let ws = m.words.items in let run = c.args.run in
-    let e = sym (ap (λ xs. not (any run.hours (λ j. row xs c.in-Some.base (later run.first j)))) c.deref.ensures.value) ∙ sym c.run_clear.ensures ∙ c.if-not-run_clear.true in
-    hold_taken ws m.links m.channels (kept_of ws m.links m.channels m.kept) run c.in-Some.base c.in-Some.ensures (not-false _ e)
+pub returns-then-not-is_free : goal.returns-then-not-is_free
+returns-then-not-is_free c = let m = c.args.self.now in let ws = m.words.items in let b = c.in_ok-base.base in
+    taken_shown ws m.links m.channels (kept_of ws m.links m.channels m.kept) c.args.run b c.in_ok-base.ensures c.load.result (subst (λ xs. Shown xs b c.load.result) c.deref.ensures.value c.load.ensures) (sym c.is_free.ensures ∙ c.if-not-is_free.true)
 
 pub returns : goal.returns
-returns c = let run = c.args.run in
-    let e = sym (ap (λ xs. not (any run.hours (λ j. row xs c.in-Some.base (later run.first j)))) c.deref.ensures.value) ∙ sym c.run_clear.ensures ∙ c.if-not-run_clear.false in
-    record { place = c.in-Some.ensures; free = not-true _ e }
+returns c = let m = c.args.self.now in let ws = m.words.items in let b = c.in_ok-base.base in record {
+  place = c.in_ok-base.ensures;
+  free = free_shown ws m.links m.channels (kept_of ws m.links m.channels m.kept) c.args.run b c.in_ok-base.ensures c.load.result (subst (λ xs. Shown xs b c.load.result) c.deref.ensures.value c.load.ensures) (sym c.is_free.ensures ∙ c.if-not-is_free.false);
+}

@@ -1,7 +1,14 @@
-use Rattle.std.proofs.Common.{arith}
-use Rattle.std.proofs.lemmas.Nat.{mul-le}
-use Rattle.calendar.proofs.Made.{sizes_parts}
+use Rattle.std.proofs.Common.{◌*◌, sym, refl, ◌∙◌, arith}
+use Rattle.std.proofs.lemmas.Bool.{le-leb, lt-leb}
+use Rattle.calendar.proofs.Made.{map_sizes, map_memory, map_made}
 use Rattle.bitmap.proofs.map.calls.words_needed.Goals as goal
 
-pub overflow_mul-result-2 : goal.overflow_mul-result-2
-overflow_mul-result-2 c = let p = sizes_parts c.args.links c.args.channels c.requires in let m = mul-le c.args.links c.args.channels 40 16 p.1 p.3 in omega arith
+pub returns-then-not-sizes_fit : goal.returns-then-not-sizes_fit
+returns-then-not-sizes_fit c = map_sizes c.args.links c.args.channels c.args.words (sym c.sizes_fit.ensures ∙ c.if-not-sizes_fit.true)
+
+pub returns-then-words-needed : goal.returns-then-words-needed
+returns-then-words-needed c =
+    map_memory c.args.links c.args.channels c.args.words (sym c.sizes_fit.ensures ∙ c.if-not-sizes_fit.false) (lt-leb (c.args.links * c.args.channels * 6) c.args.words (omega arith))
+
+pub returns : goal.returns
+returns c = (map_made c.args.links c.args.channels c.args.words (sym c.sizes_fit.ensures ∙ c.if-not-sizes_fit.false) (le-leb (c.args.links * c.args.channels * 6) c.args.words (omega arith)), refl)

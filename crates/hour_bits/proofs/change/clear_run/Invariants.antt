@@ -1,6 +1,0 @@
-use Rattle.std.proofs.Common.{◌≡◌}
-use Rattle.hour_bits.specs.Bits.{row, Wrote, fewer_hours}
-use Rattle.hour_bits.proofs.change.clear_run.Given as goal
-
-abbrev pub invariant-loop-j : goal.invariant-loop-j
-invariant-loop-j l = (Wrote l.initial.words.items l.words.items l.base (fewer_hours (row l.initial.words.items l.base) l.first l.hours) l.j) × (l.words.len ≡ l.initial.words.len)
