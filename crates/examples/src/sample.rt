@@ -1,4 +1,9 @@
-ghost use Rattle.std.specs.Prelude.{◌≡◌, IfOk};
+ghost use Rattle.std.specs.Prelude.{◌≡◌, IfOk, List};
+ghost use Rattle.bitmap.specs.Means.{map_means};
+ghost use Rattle.calendar.specs.Layers.{windowed};
+ghost use Rattle.calendar.specs.Making.{open_plant};
+ghost use Rattle.calendar.specs.declared.run.Window.{Window};
+ghost use Rattle.layers.specs.Means.{windows_means};
 
 use bitmap::map::Map;
 use layers::window_table::WindowTable;
@@ -28,11 +33,10 @@ pub fn sample_network(heap: Global) -> anyhow::Result<Network>
 
 // Two channels on each of four links, and link 2 shut from hour 20 for 4 hours.
 pub fn sample_plant(heap: Global) -> anyhow::Result<Windows<Map>>
-    ensures { IfOk result (λ plant. plant.table.count ≡ 1) }
+    ensures { IfOk result (λ plant. (windows : List Window) × (windows_means map_means plant ≡ windowed windows 1 (open_plant 4 2 1344))) }
 {
     let mut windows = WindowTable::new();
     windows.add(2, 20, 4)?;
     let words: Vec<u64> = vec![in heap; 0; 48]?;
-    let map = Map::new(words, 4, 2).map_err(|refused| refused.why)?;
-    Ok(Windows::new(map, windows))
+    Ok(Windows::new(Map::new(words, 4, 2)?, windows))
 }

@@ -55,7 +55,7 @@ fn measure<F: Finder>(
 fn on_map<C: Cost>(heap: Global) -> anyhow::Result<OnMap<C>> {
     let words: Vec<u64> = vec![in heap; 0; 3840]?;
     let space = Space::new(heap)?;
-    let map = Map::new(words, 40, 16).map_err(|refused| refused.why)?;
+    let map = Map::new(words, 40, 16)?;
     Ok(OnMap { map, space })
 }
 

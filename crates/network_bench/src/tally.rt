@@ -12,17 +12,21 @@ pub struct Tally {
 
 // A path as one number: its link numbers, each at most 40, as digits.
 fn digits(path: Path) -> u64 {
-    path.numbers()
-        .iter()
-        .fold(0, |number: u64, link| number.wrapping_mul(41).wrapping_add(u64::from(*link)))
+    path.numbers().iter().fold(
+        0,
+        |number: u64, link| number.wrapping_mul(41).wrapping_add(u64::from(*link)),
+    )
 }
 
 impl Tally {
     fn with(self, found: Option<Path>) -> Tally {
-        found.map_or(self, |path| Tally {
-            paths: self.paths.saturating_add(1),
-            sum: self.sum.wrapping_add(digits(path)),
-        })
+        found.map_or(
+            self,
+            |path| Tally {
+                paths: self.paths.saturating_add(1),
+                sum: self.sum.wrapping_add(digits(path)),
+            },
+        )
     }
 
     // What so many rounds of the same come to.

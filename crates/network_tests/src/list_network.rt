@@ -31,15 +31,9 @@ impl ListNetwork {
 
     // The same network, as the proved search takes it.
     pub fn made(&self, heap: Global) -> Result<Network, Fail> {
-        let mut net = Network::new(heap, self.places as u32, self.hops as u32).map_err(
-            |_| Fail::new("no network"),
-        )?;
+        let mut net = Network::new(heap, self.places as u32, self.hops as u32)?;
         for l in self.links.iter() {
-            let link = Link::new(l.one as u32, l.two as u32, l.metres, l.loss).map_err(
-                |_| Fail::new("no link"),
-            )?;
-            net.add(link)
-                .map_err(|_| Fail::new("a link was not added"))?;
+            net.add(Link::new(l.one as u32, l.two as u32, l.metres, l.loss)?)?;
         }
         Ok(net)
     }

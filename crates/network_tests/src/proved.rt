@@ -28,8 +28,10 @@ impl<C: Cost> Searched<C> {
     }
 
     pub fn answer(&mut self, from: u8, to: u8) -> Answer {
-        chosen_path(&self.net, &self.usable, &mut self.scratch, from, to)
-            .map(|path| (path.count(), path.numbers()))
+        chosen_path(&self.net, &self.usable, &mut self.scratch, from, to).map(|path| (
+            path.count(),
+            path.numbers(),
+        ))
     }
 }
 

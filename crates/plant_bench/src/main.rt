@@ -4,7 +4,6 @@ mod hour_table;
 mod rounds;
 mod subject;
 
-use anyhow::anyhow;
 use bitmap::map::Map;
 use calendar::run::Run;
 use hour_table::{Cell, HourTable};
@@ -25,12 +24,12 @@ fn plain_table(heap: Global) -> anyhow::Result<HourTable> {
 
 fn map(heap: Global) -> anyhow::Result<Map> {
     let words: Vec<u64> = vec![in heap; 0; 3840]?;
-    Map::new(words, 40, 16).map_err(|_| anyhow!("no map"))
+    Ok(Map::new(words, 40, 16)?)
 }
 
 fn timetable(heap: Global) -> anyhow::Result<Timetable> {
     let rows: Vec<Run> = vec![in heap; Run::default(); 1024]?;
-    Timetable::new(rows, 40, 16).map_err(|_| anyhow!("no timetable"))
+    Ok(Timetable::new(rows, 40, 16)?)
 }
 
 // What is printed: how many calls one round did, or how many a second so many rounds did.

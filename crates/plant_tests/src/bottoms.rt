@@ -15,10 +15,10 @@ pub fn words(heap: Global, count: usize) -> Result<Vec<u64>, AllocError> {
 
 // A timetable over rows that hold something else before.
 pub fn timetable(heap: Global, count: usize, links: u32, channels: u32) -> Result<Timetable, Fail> {
-    Timetable::new(rows(heap, count)?, links, channels).map_err(|_| Fail::new("no timetable"))
+    Ok(Timetable::new(rows(heap, count)?, links, channels)?)
 }
 
 // A map over words that hold something else before.
 pub fn map(heap: Global, links: u32, channels: u32) -> Result<Map, Fail> {
-    Map::new(words(heap, 40 * 16 * 6)?, links, channels).map_err(|_| Fail::new("no map"))
+    Ok(Map::new(words(heap, 40 * 16 * 6)?, links, channels)?)
 }

@@ -30,8 +30,7 @@ fn some_plant(heap: Global, dice: &mut Dice) -> Result<Windows<Map>, Fail> {
             dice.small(60) as u32 + 1,
         );
     }
-    let map = Map::new(words, 9, 4).map_err(|_| Fail::new("no map"))?;
-    let mut plant = Windows::new(map, table);
+    let mut plant = Windows::new(Map::new(words, 9, 4)?, table);
     for _ in 0..dice.small(40) {
         let _ = plant.hold(Run {
             link: dice.small(9).saturating_add(1),
