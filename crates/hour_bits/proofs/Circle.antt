@@ -60,9 +60,6 @@ module _ (p : ℕ → Bool) (a n : ℕ) (pa : a < 168) where
   pub any_free : n ≤ 168 → Free p a n → any n (λ j. p (later a j)) ≡ false
   any_free most free = any_false n (λ j. p (later a j)) (λ j l. free (later a j) (omega arith) (omega arith))
 
-  pub any_at : (h : ℕ) → h < 168 → ahead a h < n → p h ≡ true → any n (λ j. p (later a j)) ≡ true
-  any_at h q l e = let i : later a (ahead a h) ≡ h = omega arith in any_intro n (λ j. p (later a j)) (ahead a h) l (ap p i ∙ e)
-
 pub full_from : (p : ℕ → Bool) (a n : ℕ) → a < 168 → any n (λ j. not (p (later a j))) ≡ false → Full p a n
 full_from p a n pa e h q l = not-false (p h) (free_from (λ x. not (p x)) a n pa e h q l)
 

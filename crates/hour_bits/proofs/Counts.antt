@@ -5,7 +5,7 @@ use Rattle.std.specs.Simd.{first_chunks}
 use Rattle.std.proofs.lemmas.List.{get_or-take, get_or-drop, length-take}
 use Rattle.std.proofs.lemmas.List.Sums.{sum_by-cons}
 use Rattle.calendar.specs.Week.{total}
-use Rattle.calendar.specs.Meaning.{live_count, held_count, room_of}
+use Rattle.calendar.specs.Meaning.{live_count, held_count}
 use Rattle.calendar.proofs.Sums.{total_cong, total_split, total_empty, total_suc}
 use Rattle.hour_bits.specs.Bits.{bit, row, bit_count}
 use Rattle.hour_bits.specs.Tables.{mapped, base_of, held_in, start_in, words_mean, Kept}
@@ -36,10 +36,6 @@ module _ (ws : List ℕ) (L C : ℕ) (k : Kept ws L C) where
   unfolding mapped
   live_fits = let e = live_words in let b = count_bound (words_mean ws L C) in omega (arith, e, b)
 
-  pub room_words : L * C * 168 - total (L * C) (λ i. bit_count (row ws (3 + i * 6))) ≡ room_of (words_mean ws L C)
-  unfolding room_of mapped
-  room_words = ap (λ n. L * C * 168 - n) (sym live_words)
-
   pub count_words : (l : ℕ) → 1 ≤ l → l ≤ L → total C (λ i. bit_count (row ws (base_of C l 1 + i * 6))) ≡ held_count (words_mean ws L C) l
   count_words l p q =
       sym (mapped_count L C (held_in ws C) (start_in ws C) (kept_sounds ws L C k) l p q
@@ -49,7 +45,7 @@ module _ (ws : List ℕ) (L C : ℕ) (k : Kept ws L C) where
   count_none l out = sym (mapped_outside L C (held_in ws C) (start_in ws C) (kept_sounds ws L C k) l out k.some_channels)
 
 -- rows of six words, counted one after another
-pub chunk_count : (at : ℕ) → at ≤ 3 → (k : ℕ) (ws : List ℕ) → sum_by (λ (r : List ℕ). bit_count (row r at)) (first_chunks 6 k ws) ≡ total k (λ i. bit_count (row ws (i * 6 + at)))
+chunk_count : (at : ℕ) → at ≤ 3 → (k : ℕ) (ws : List ℕ) → sum_by (λ (r : List ℕ). bit_count (row r at)) (first_chunks 6 k ws) ≡ total k (λ i. bit_count (row ws (i * 6 + at)))
 chunk_count at p zero ws = sym (total_empty (λ i. bit_count (row ws (i * 6 + at))))
 chunk_count at p (suc k) ws =
     let f : ℕ → ℕ = λ i. bit_count (row ws (i * 6 + at)) in

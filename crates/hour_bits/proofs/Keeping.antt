@@ -1,7 +1,7 @@
 -- What the words of a map keep, from its making on, and what that says of them.
-use Rattle.std.proofs.Common.{◌≡◌, ℕ, ◌+◌, ◌*◌, ◌/◌, ◌%◌, ◌<◌, ◌≤◌, Bool, true, false, cond, not, leb, List, length, get_or, set, ap, ◌∙◌, ⊎_elim, arith, length-set, get_or-set_other, get_or-set_same}
+use Rattle.std.proofs.Common.{◌≡◌, ℕ, ◌+◌, ◌*◌, ◌/◌, ◌%◌, ◌<◌, ◌≤◌, Bool, true, false, cond, not, leb, List, length, get_or, ap, ◌∙◌, ⊎_elim, arith}
 use mathlib.Core.Logic.{∥∥₁_elim}
-use Rattle.std.proofs.lemmas.Bool.{both_ways, cases_Bool, cases_eq, leb-true, and_left, not_from_false, cond-true, cond-false}
+use Rattle.std.proofs.lemmas.Bool.{both_ways, cases_Bool, leb-true, and_left, not_from_false, cond-true, cond-false}
 use Rattle.calendar.specs.Week.{any, later}
 use Rattle.calendar.specs.Making.{open_plant, sizes_fit, map_number}
 use Rattle.calendar.specs.Meaning.{Sound, within}
@@ -9,7 +9,7 @@ use Rattle.calendar.proofs.Made.{sizes_parts, map_sizes, map_memory}
 use Rattle.calendar.proofs.Props.{le_one, bool_one}
 use Rattle.calendar.proofs.Sums.{any_intro}
 use Rattle.hour_bits.specs.Bits.{bit, row, goes_on, hours_of, SoundRow}
-use Rattle.hour_bits.specs.Tables.{mapped, base_of, held_in, start_in, words_mean, Kept, Spare}
+use Rattle.hour_bits.specs.Tables.{mapped, base_of, held_in, start_in, words_mean, Kept}
 use Rattle.hour_bits.proofs.Words.{bit_zero}
 use Rattle.hour_bits.proofs.Runs.{hours_none}
 use Rattle.hour_bits.proofs.Tables.{Within, within_parts, within_from, Sounds}
@@ -56,17 +56,6 @@ map_sized L C n e =
     (cases_Bool (leb (L * C * 6) n)))
     (λ (s : sizes_fit L C ≡ false). let z = map_sizes L C n s in absurd (omega arith))
     (cases_Bool (sizes_fit L C))
-
--- one word more is cleared, and the words after it are as they were
-pub wipe_more : (ws cur : List ℕ) (i : ℕ) → i < length cur → ((j : ℕ) → j < i → get_or cur j 0 ≡ 0) → Spare ws cur i
-    → ((j : ℕ) → j < i + 1 → get_or (set cur i 0) j 0 ≡ 0) × (Spare ws (set cur i 0) (i + 1))
-wipe_more ws cur i fits zeros spare = (
-  λ j l. ⊎_elim
-      (λ (e : j ≡ i). rw e (get_or-set_same cur i 0 0 fits))
-      (λ e. get_or-set_other cur i j 0 0 e ∙ zeros j (omega arith))
-      (cases_eq j i),
-  record { many = length-set cur i 0 ∙ spare.many; same = λ j l. get_or-set_other cur i j 0 0 (λ e. omega arith) ∙ spare.same j (omega arith) },
-)
 
 -- words of zeros mean an open plant
 module _ (ws : List ℕ) (L C : ℕ) (zeros : (i : ℕ) → i < L * C * 6 → get_or ws i 0 ≡ 0) where

@@ -34,7 +34,8 @@ impl Map {
         count_starts(rows)
     }
 
-    // The rows of the link's channels; none where the map has no such link.
+    // The rows of the link's channels; none where the map has no such link. The bounds of the part rest on what `place`
+    // promises of the base, which a closure would not see.
     fn rows_of(&self, link: u8) -> &[[u64; 6]]
         ensures few { length result.now ≤ 640 }
         ensures held { sum_by (λ (r : List ℕ). bit_count (row r 0)) result.now ≡ held_count (map_means self.now) link }

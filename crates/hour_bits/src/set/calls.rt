@@ -37,7 +37,8 @@ impl HourSet {
         ])
     }
 
-    // The hours in either set.
+    // The hours in either set. Each of these three names its operator word by word: a closure for it would need a
+    // contract that is longer than the body.
     pub(crate) fn with(self, other: HourSet) -> HourSet
         ensures { (h : ℕ) → h < 168 → bits result h ≡ (bits self h || bits other h) }
     {
@@ -107,7 +108,7 @@ impl HourSet {
             .is_some_and(|word| bit_of(*word, hour as usize % 64))
     }
 
-    // How many hours are in the set.
+    // How many hours are in the set. Three terms: for the sum of a chain the bound of each count stays unproved.
     pub(crate) fn count(self) -> u32
         ensures { result ≡ bit_count (bits self) }
     {
