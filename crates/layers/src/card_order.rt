@@ -20,7 +20,7 @@ pub struct CardOrder<P> {
 
 impl<P: Plant> CardOrder<P> {
     pub fn new(below: P, table: CardTable) -> CardOrder<P>
-        ensures { order_means P.Plant.meaning result ≡ carded table.entries (P.Plant.meaning below) }
+        ensures { order_means P.meaning result ≡ carded table.entries (P.meaning below) }
     {
         CardOrder { below, table }
     }
@@ -36,15 +36,15 @@ impl<P: Plant> CardOrder<P> {
     // The plant below: its links, room and numbers of held cells are the layer's too.
     fn plant_below(&self) -> &P
         ensures plant { result.now ≡ self.now.below }
-        ensures size { size_of (order_means P.Plant.meaning self.now) ≡ record { links = (P.Plant.meaning result.now).links; channels = 16 } }
-        ensures passed { Passed (carded self.now.table.entries) (P.Plant.meaning result.now) }
+        ensures size { size_of (order_means P.meaning self.now) ≡ record { links = (P.meaning result.now).links; channels = 16 } }
+        ensures passed { Passed (carded self.now.table.entries) (P.meaning result.now) }
     {
         &self.below
     }
 
     // The channel that stands for it below, if it is one of the sixteen.
     fn channel_below(&self, channel: u8) -> Option<u8>
-        ensures { MatchOption result (NoChannel (order_means P.Plant.meaning self.now) channel) (λ k. ChannelStands (carded self.now.table.entries) (P.Plant.meaning self.now.below) channel k) }
+        ensures { MatchOption result (NoChannel (order_means P.meaning self.now) channel) (λ k. ChannelStands (carded self.now.table.entries) (P.meaning self.now.below) channel k) }
     {
         (1..=16)
             .contains(&channel)
@@ -54,8 +54,8 @@ impl<P: Plant> CardOrder<P> {
     // The run that stands for it below, or why there is none: `lacking` where the plant below lacks the channel.
     fn run_below(&self, run: Run, lacking: PlantRefusal) -> Result<Run, PlantRefusal>
         ensures { MatchResult result
-            (λ s. RunStands (carded self.now.table.entries) (P.Plant.meaning self.now.below) run s × (first_taken (order_means P.Plant.meaning self.now) run ≡ first_taken (P.Plant.meaning self.now.below) s))
-            (λ why. ((why ≡ PlantRefusal.OutOfRange) × OutOfRange (order_means P.Plant.meaning self.now) run) ⊎ ((why ≡ lacking) × AllClosed (order_means P.Plant.meaning self.now) run)) }
+            (λ s. RunStands (carded self.now.table.entries) (P.meaning self.now.below) run s × (first_taken (order_means P.meaning self.now) run ≡ first_taken (P.meaning self.now.below) s))
+            (λ why. ((why ≡ PlantRefusal.OutOfRange) × OutOfRange (order_means P.meaning self.now) run) ⊎ ((why ≡ lacking) × AllClosed (order_means P.meaning self.now) run)) }
     {
         let size = self.below.size();
         let shown = Size {
@@ -74,9 +74,9 @@ impl<P: Plant> CardOrder<P> {
 }
 
 impl<P: Plant> Plant for CardOrder<P> {
-    ghost meaning = { order_means P.Plant.meaning };
+    ghost meaning = { order_means P.meaning };
 
-    ghost sound = { λ s. carded_sound s.table.entries (order_of s.table.entries s.table.ordered) (P.Plant.meaning s.below) (P.Plant.sound s.below) };
+    ghost sound = { λ s. carded_sound s.table.entries (order_of s.table.entries s.table.ordered) (P.meaning s.below) (P.sound s.below) };
 
     fn size(&self) -> Size {
         Size {

@@ -19,7 +19,7 @@ pub struct Clock<P> {
 
 impl<P: Plant> Clock<P> {
     pub fn new(below: P, table: Offset) -> Clock<P>
-        ensures { clock_means P.Plant.meaning result ≡ clocked table.hours (P.Plant.meaning below) }
+        ensures { clock_means P.meaning result ≡ clocked table.hours (P.meaning below) }
     {
         Clock { below, table }
     }
@@ -35,22 +35,22 @@ impl<P: Plant> Clock<P> {
     // The plant below: its sizes, room and numbers of held cells are the clock's too.
     fn plant_below(&self) -> &P
         ensures plant { result.now ≡ self.now.below }
-        ensures size { size_of (clock_means P.Plant.meaning self.now) ≡ size_of (P.Plant.meaning result.now) }
-        ensures passed { Passed (clocked self.now.table.hours) (P.Plant.meaning result.now) }
+        ensures size { size_of (clock_means P.meaning self.now) ≡ size_of (P.meaning result.now) }
+        ensures passed { Passed (clocked self.now.table.hours) (P.meaning result.now) }
     {
         &self.below
     }
 
     // The hour that stands for it below. An hour outside the week has none: the turn would make an hour of it.
     fn hour_below(&self, hour: u8) -> Option<u8>
-        ensures { MatchOption result (NoHour (clock_means P.Plant.meaning self.now) hour) (λ k. HourStands (clocked self.now.table.hours) (P.Plant.meaning self.now.below) hour k) }
+        ensures { MatchOption result (NoHour (clock_means P.meaning self.now) hour) (λ k. HourStands (clocked self.now.table.hours) (P.meaning self.now.below) hour k) }
     {
         (hour < 168).then(|| self.table.moved(hour))
     }
 
     // The run that stands for it below, if it begins in the week.
     fn run_below(&self, run: Run) -> Option<Run>
-        ensures { MatchOption result (OutOfRange (clock_means P.Plant.meaning self.now) run) (λ s. RunStands (clocked self.now.table.hours) (P.Plant.meaning self.now.below) run s × (first_taken (clock_means P.Plant.meaning self.now) run ≡ unmoved self.now.table.hours (first_taken (P.Plant.meaning self.now.below) s))) }
+        ensures { MatchOption result (OutOfRange (clock_means P.meaning self.now) run) (λ s. RunStands (clocked self.now.table.hours) (P.meaning self.now.below) run s × (first_taken (clock_means P.meaning self.now) run ≡ unmoved self.now.table.hours (first_taken (P.meaning self.now.below) s))) }
     {
         (run.first < 168).then(|| Run {
             first: self.table.moved(run.first),
@@ -60,9 +60,9 @@ impl<P: Plant> Clock<P> {
 }
 
 impl<P: Plant> Plant for Clock<P> {
-    ghost meaning = { clock_means P.Plant.meaning };
+    ghost meaning = { clock_means P.meaning };
 
-    ghost sound = { λ s. clocked_sound s.table.hours s.table.week (P.Plant.meaning s.below) (P.Plant.sound s.below) };
+    ghost sound = { λ s. clocked_sound s.table.hours s.table.week (P.meaning s.below) (P.sound s.below) };
 
     fn size(&self) -> Size {
         self.plant_below().size()

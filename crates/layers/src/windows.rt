@@ -27,7 +27,7 @@ fn before_window(run: Run, part: Run, found: Option<u8>) -> Option<u8>
 
 impl<P: Plant> Windows<P> {
     pub fn new(below: P, table: WindowTable) -> Windows<P>
-        ensures { windows_means P.Plant.meaning result ≡ windowed table.windows table.count (P.Plant.meaning below) }
+        ensures { windows_means P.meaning result ≡ windowed table.windows table.count (P.meaning below) }
     {
         Windows { below, table }
     }
@@ -43,25 +43,25 @@ impl<P: Plant> Windows<P> {
     // The plant below: its sizes, room and held cells are the layer's too, and its closed cells but for the windows.
     fn plant_below(&self) -> &P
         ensures plant { result.now ≡ self.now.below }
-        ensures size { size_of (windows_means P.Plant.meaning self.now) ≡ size_of (P.Plant.meaning result.now) }
-        ensures passed { Passed (windowed self.now.table.windows self.now.table.count) (P.Plant.meaning result.now) }
-        ensures held { (l c h : ℕ) → is_held (windows_means P.Plant.meaning self.now) l c h ≡ is_held (P.Plant.meaning result.now) l c h }
-        ensures closed { (l c h : ℕ) → (windows_means P.Plant.meaning self.now).closed l c h ≡ ((P.Plant.meaning result.now).closed l c h || shut self.now.table.windows self.now.table.count l h) }
+        ensures size { size_of (windows_means P.meaning self.now) ≡ size_of (P.meaning result.now) }
+        ensures passed { Passed (windowed self.now.table.windows self.now.table.count) (P.meaning result.now) }
+        ensures held { (l c h : ℕ) → is_held (windows_means P.meaning self.now) l c h ≡ is_held (P.meaning result.now) l c h }
+        ensures closed { (l c h : ℕ) → (windows_means P.meaning self.now).closed l c h ≡ ((P.meaning result.now).closed l c h || shut self.now.table.windows self.now.table.count l h) }
     {
         &self.below
     }
 
     // Whether the plant below can have the run, and a window is in its way.
     fn bars(&self, run: Run) -> bool
-        ensures held { hold_number (windows_means P.Plant.meaning self.now) run ≡ (if result then 22 else hold_number (P.Plant.meaning self.now.below) run) }
-        ensures after { after_hold (windows_means P.Plant.meaning self.now) run ≡ windowed self.now.table.windows self.now.table.count (if result then P.Plant.meaning self.now.below else after_hold (P.Plant.meaning self.now.below) run) }
+        ensures held { hold_number (windows_means P.meaning self.now) run ≡ (if result then 22 else hold_number (P.meaning self.now.below) run) }
+        ensures after { after_hold (windows_means P.meaning self.now) run ≡ windowed self.now.table.windows self.now.table.count (if result then P.meaning self.now.below else after_hold (P.meaning self.now.below) run) }
     {
         run.fits(self.below.size()) && self.table.open_hours(run) < run.hours
     }
 
     // The hours of the run before the first that a window shuts; none where it is not free from the start.
     fn open_part(&self, run: Run) -> Option<Run>
-        ensures { MatchOption result (first_taken (windows_means P.Plant.meaning self.now) run ≡ Some run.first) (λ s. first_taken (windows_means P.Plant.meaning self.now) run ≡ before_window run s.hours (first_taken (P.Plant.meaning self.now.below) s)) }
+        ensures { MatchOption result (first_taken (windows_means P.meaning self.now) run ≡ Some run.first) (λ s. first_taken (windows_means P.meaning self.now) run ≡ before_window run s.hours (first_taken (P.meaning self.now.below) s)) }
     {
         if !run.fits(self.below.size()) {
             return None;
@@ -72,9 +72,9 @@ impl<P: Plant> Windows<P> {
 }
 
 impl<P: Plant> Plant for Windows<P> {
-    ghost meaning = { windows_means P.Plant.meaning };
+    ghost meaning = { windows_means P.meaning };
 
-    ghost sound = { λ s. windowed_sound s.table.windows s.table.count (P.Plant.meaning s.below) (P.Plant.sound s.below) };
+    ghost sound = { λ s. windowed_sound s.table.windows s.table.count (P.meaning s.below) (P.sound s.below) };
 
     fn size(&self) -> Size {
         self.plant_below().size()

@@ -32,6 +32,7 @@ pub enum Refusal {
 }
 
 impl Refusal {
+    // Two refusals carry a cell, so the numbers cannot stand at the variants.
     pub fn number(self) -> u8
         ensures { result ≡ refusal_number self }
     {

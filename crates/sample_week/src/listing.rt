@@ -2,8 +2,7 @@ use floor::report::Report;
 use orders::call::{Accepted, Slot};
 use orders::refusal::Refusal;
 use orders::row::Row;
-use std::fmt;
-use std::io;
+use std::{fmt, io};
 
 // The line of the sample file on which its first order stands.
 const FIRST_LINE: usize = 7;
@@ -31,7 +30,14 @@ impl fmt::Display for Accepts {
     fn fmt<W: fmt::Write>(&self, f: &mut fmt::Formatter<W>) -> fmt::Result {
         let order = self.row.order;
         let way = self.row.way;
-        write!(f, "A{:>7}{:>7}{:>7}{:>7}", order.number, way.channel, order.first, way.path.count())?;
+        write!(
+            f,
+            "A{:>7}{:>7}{:>7}{:>7}",
+            order.number,
+            way.channel,
+            order.first,
+            way.path.count()
+        )?;
         for link in way.path.links() {
             write!(f, "{link:>7}")?;
         }
@@ -50,7 +56,11 @@ impl fmt::Display for Refuses {
 impl fmt::Display for Totals {
     fn fmt<W: fmt::Write>(&self, f: &mut fmt::Formatter<W>) -> fmt::Result {
         let r = self.report;
-        write!(f, "T{:>7}{:>7}{:>7}{:>7}", r.used, r.floor, r.orders, r.channel_hours)
+        write!(
+            f,
+            "T{:>7}{:>7}{:>7}{:>7}",
+            r.used, r.floor, r.orders, r.channel_hours
+        )
     }
 }
 
@@ -59,7 +69,13 @@ pub fn show_answers(rt: &HostRuntime, slots: &[Slot]) -> io::Result<()> {
         match slot.answer {
             Some(Ok(Accepted::Stands(row))) => println!(rt; "{}", Accepts { row })?,
             Some(Ok(Accepted::Cancelled(number))) => println!(rt; "A{number:>7}")?,
-            Some(Err(why)) => println!(rt; "{}", Refuses { line: FIRST_LINE.saturating_add(i), why })?,
+            Some(Err(why)) => println!(rt;
+                "{}",
+                Refuses {
+                    line: FIRST_LINE.saturating_add(i),
+                    why
+                }
+            )?,
             None => {}
         }
     }

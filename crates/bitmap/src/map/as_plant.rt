@@ -84,6 +84,7 @@ impl Plant for Map {
     }
 
     fn held(&self, link: u8, channel: u8, hour: u8) -> bool {
+        // `is_ok_and` leaves open what its closure answers.
         match self.runs_at(cell(link, channel, hour)) {
             Ok(runs) => runs.held.has(hour),
             Err(_) => false,

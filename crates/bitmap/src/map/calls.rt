@@ -59,6 +59,7 @@ impl Map {
             (λ m. (map_number links channels (vec_len words) ≡ 0) × (map_means m ≡ open_plant links channels (links * channels * 168)) × Spare words.items m.words.items (links * channels * 6))
             (λ e. (map_number links channels (vec_len words) ≡ making_number e.why) × (e.words ≡ words)) }
     {
+        // Either arm takes the words, so it is no `map_err`.
         match words_needed(words.len(), links, channels) {
             Ok(needed) => Ok(make(words, needed, links, channels)),
             Err(why) => Err(RefusedWords { why, words }),

@@ -39,7 +39,7 @@ impl<C: Copy> Scratch<C> {
         if j > 8 {
             return;
         }
-        // A write that tests its place each time is slower than the search may be.
+        // As a slice that is filled, what the other rows keep stays open.
         for v in 0..33u8 {
             self.cells[j as usize * 33 + v as usize] = None;
         }
@@ -58,7 +58,9 @@ impl<C: Cost> Scratch<C> {
     fn offer(&mut self, j: u8, v: u8, cost: Option<C>)
         ensures { self.new.cells.items ≡ slice_set self.old.cells.items (j * 33 + v) (better C.kind.at_most (cell_at self.old.cells.items j v) cost) }
     {
-        self.put(j, v, cheaper(self.cell(j, v), cost));
+        if let Some(known) = self.cells.get_mut(j as usize * 33 + v as usize) {
+            *known = cheaper(*known, cost);
+        }
     }
 
     // Offers a link that may be used to both of its ends, in the row after row j.

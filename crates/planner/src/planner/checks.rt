@@ -26,14 +26,14 @@ fn width_fits(width: u32) -> bool
     (1..=4).contains(&width)
 }
 
-// Whether the hours asked for are hours of the week.
+// Whether the hours asked for are hours of the week. An order asks the same of bytes; a request has numbers of any value.
 fn hours_fit(request: Request) -> bool
     ensures { result ≡ hours_fit (order_of request) }
 {
     request.first < 168 && (1..=168).contains(&request.hours)
 }
 
-// Whether v and w are two different places out of so many.
+// Whether v and w are two different places out of so many. A network asks the same of bytes.
 fn two_places(places: u8, v: u32, w: u32) -> bool
     ensures { result ≡ two_places places v w }
 {

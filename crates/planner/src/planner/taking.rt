@@ -58,6 +58,7 @@ impl<P: Plant, C: Cost> Planner<P, C> {
             .ok_or(Refusal::BadBlock)?;
         let way = Way { channel, path };
         let row = Row { order, way };
+        // A fault is what is looked for, so it is no error until here.
         if let Some(why) = first_fault(&self.plant, None, &row) {
             return Err(why);
         }
