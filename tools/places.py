@@ -54,7 +54,10 @@ def functions():
                 depth += {'(': 1, ')': -1}.get(text[i], 0)
                 i += 1
             params = [p.strip() for p in re.split(r',(?![^<(\[]*[>)\]])', text[m.end():i - 1]) if p.strip()]
-            head = text[i:text.find('\n{' if text[m.start()] != ' ' else '\n    {', i)]
+            rest = text[i:]
+            first = rest.split('\n', 1)[0]
+            indent = re.match(r' *', m.group(0)).group(0)
+            head = first if first.rstrip().endswith(('{', '{}', ';')) else rest[:rest.find('\n' + indent + '{')]
             clauses = re.findall(r'^\s+requires(?: \w+)? \{ (.*) \}$', head, re.M)
             yield '%s:%d' % (name, text.count('\n', 0, m.start()) + 1), m.group(1), params, clauses
 
@@ -120,7 +123,6 @@ KINDS = [
     ('1 a let .. else that returns a refusal or nothing', else_returns),
     ('1 a test of is_err or is_ok that returns', lambda: lines_with(r'if .*\.is_(err|ok)\(\) \{')),
     ('1 a number for a case', lambda: lines_with(r'=> \d+,$', r'\{ 1 \} else \{ 0 \}', r'Ok\(\d+\)$')),
-    ('2 (pairs of places of like shape: see the page)', lambda: []),
     ('3 a loop over a range of numbers', lambda: lines_with(r"^\s*('\w+: )?for \w+ in .*\.\.")),
     ('3 a while or a bare loop', lambda: lines_with(r"^\s*('\w+: )?(while|loop)\b")),
     ('4 a function that compares, converts or prints', lambda: lines_with(

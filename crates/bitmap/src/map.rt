@@ -1,8 +1,6 @@
 ghost use Rattle.hour_bits.specs.Tables.{Kept};
 
-use calendar::refusal::MakingRefusal;
-use std::error::Error;
-use std::fmt;
+use calendar::refusal::Refused;
 
 pub mod as_plant;
 mod calls;
@@ -18,16 +16,4 @@ pub struct Map {
 }
 
 // Why no map was made, with the words that were handed in.
-#[derive(Debug, Drop)]
-pub struct RefusedWords {
-    pub why: MakingRefusal,
-    pub words: Vec<u64>,
-}
-
-impl fmt::Display for RefusedWords {
-    fn fmt<W: fmt::Write>(&self, f: &mut fmt::Formatter<W>) -> fmt::Result {
-        self.why.fmt(f)
-    }
-}
-
-impl Error for RefusedWords {}
+pub type RefusedWords = Refused<u64>;

@@ -36,7 +36,8 @@ fn wait(hours: u8, since: u8, to: u8) -> u8
     }
 }
 
-// How many hours it is from `hour` on to one that a run of `hours` from `first` covers; 168 where it covers none.
+// How many hours it is from `hour` on to one that a run of `hours` from `first` covers; 168 where it covers none, so
+// that a caller takes the least of it and a run's hours.
 pub fn hours_until(first: u8, hours: u8, hour: u8) -> u8
     ensures { result ≡ until first hours hour }
 {

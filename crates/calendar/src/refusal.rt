@@ -73,3 +73,18 @@ pub fn answer_number(answer: Result<(), PlantRefusal>) -> u8
         Err(why) => why.number(),
     }
 }
+
+// A refusal to make a plant, with the memory that was handed in.
+#[derive(Debug, Drop)]
+pub struct Refused<T> {
+    pub why: MakingRefusal,
+    pub memory: Vec<T>,
+}
+
+impl<T: fmt::Debug + Drop> fmt::Display for Refused<T> {
+    fn fmt<W: fmt::Write>(&self, f: &mut fmt::Formatter<W>) -> fmt::Result {
+        self.why.fmt(f)
+    }
+}
+
+impl<T: fmt::Debug + Drop> Error for Refused<T> {}

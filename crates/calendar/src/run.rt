@@ -1,8 +1,10 @@
-ghost use Rattle.std.specs.Prelude.{◌≡◌};
+ghost use Rattle.std.specs.Prelude.{◌≡◌, min};
+ghost use Rattle.calendar.specs.Week.{until};
 ghost use Rattle.calendar.specs.Making.{sizes_fit};
 ghost use Rattle.calendar.specs.Meaning.{within, fits, hour_at};
 
-use crate::hours::hour_after;
+use crate::hours::{hour_after, hours_until};
+use std::fmt;
 
 // A run: one channel of one link, from a first hour on for some hours, around the week.
 #[derive(Clone, Copy, Debug, Default, PartialEq, Eq)]
@@ -45,11 +47,28 @@ impl Run {
         size.has_cell(self.link, self.channel, self.first) && (1..=168).contains(&self.hours)
     }
 
+    // How many hours of the run come before the first that the hours from `first` on cover; all, where they cover none.
+    pub fn hours_before(self, first: u8, hours: u8) -> u8
+        ensures { result ≡ min self.hours (until first hours self.first) }
+    {
+        self.hours.min(hours_until(first, hours, self.first))
+    }
+
     // The hour of the run that comes `after` hours after its first, if it has so many.
     pub fn hour_at(self, after: u8) -> Option<u8>
         ensures { result ≡ hour_at self after }
     {
         (after < self.hours).then(|| hour_after(self.first, after))
+    }
+}
+
+impl fmt::Display for Run {
+    fn fmt<W: fmt::Write>(&self, f: &mut fmt::Formatter<W>) -> fmt::Result {
+        write!(
+            f,
+            "link {} channel {} from hour {} for {}",
+            self.link, self.channel, self.first, self.hours
+        )
     }
 }
 

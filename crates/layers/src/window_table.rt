@@ -5,7 +5,7 @@ ghost use Rattle.calendar.specs.Making.{formed, window_number};
 ghost use Rattle.calendar.specs.Week.{covers, least, later, until};
 ghost use Rattle.calendar.specs.Layers.{shut, nowhere};
 
-use calendar::hours::{covers_hour, hours_until};
+use calendar::hours::covers_hour;
 use calendar::refusal::MakingRefusal;
 use calendar::run::{Run, Window};
 
@@ -41,8 +41,7 @@ fn hours_before(window: Window, run: Run) -> u8
     ensures { result ≡ (if window.link == run.link then min run.hours (until window.first window.hours run.first) else run.hours) }
 {
     if window.link == run.link {
-        run.hours
-            .min(hours_until(window.first, window.hours, run.first))
+        run.hours_before(window.first, window.hours)
     } else {
         run.hours
     }

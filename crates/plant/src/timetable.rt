@@ -1,10 +1,8 @@
 ghost use Rattle.std.specs.Prelude.{◌≤◌, vec_len};
 ghost use Rattle.calendar.specs.Rows.{Kept};
 
-use calendar::refusal::MakingRefusal;
+use calendar::refusal::Refused;
 use calendar::run::Run;
-use std::error::Error;
-use std::fmt;
 
 pub mod calls;
 pub mod rows;
@@ -20,16 +18,4 @@ pub struct Timetable {
 }
 
 // A refusal to make a timetable, with the rows that were handed in.
-#[derive(Debug, Drop)]
-pub struct RefusedRows {
-    pub why: MakingRefusal,
-    pub rows: Vec<Run>,
-}
-
-impl fmt::Display for RefusedRows {
-    fn fmt<W: fmt::Write>(&self, f: &mut fmt::Formatter<W>) -> fmt::Result {
-        self.why.fmt(f)
-    }
-}
-
-impl Error for RefusedRows {}
+pub type RefusedRows = Refused<Run>;

@@ -24,8 +24,8 @@ fn timetable_number(
     channels: u32,
 ) -> Result<u8, Fail> {
     let made = Timetable::new(rows(heap, count)?, links, channels).map_err(|refused| {
-        assert!(rt; refused.rows.len() == count);
-        assert!(rt; refused.rows.iter().all(|row| row.link == 9));
+        assert!(rt; refused.memory.len() == count);
+        assert!(rt; refused.memory.iter().all(|row| row.link == 9));
         refused.why
     });
     if let Ok(plant) = &made {
@@ -58,7 +58,7 @@ fn map_number(
     let made = Map::new(words(heap, count)?, links, channels)
         .map(|plant| plant.into_words())
         .map_err(|refused| {
-            assert!(rt; refused.words.len() == count);
+            assert!(rt; refused.memory.len() == count);
             refused.why
         });
     if let Ok(words) = &made {

@@ -40,30 +40,38 @@ fn route<P: Plant, C: Cost>(
     }
 }
 
-// By length, on the lowest channel that has a path.
-pub fn office_routes<P: Plant>(rt: &HostRuntime, plant: &P, net: &Network) -> anyhow::Result<()> {
-    let mut space: Space<Metres> = Space::new(rt.alloc())?;
-    for order in [
-        order(1, 3, 1, 10, 5),
-        order(1, 2, 1, 166, 2),
-        order(2, 3, 1, 20, 1),
-        order(1, 2, 3, 0, 1),
-    ] {
-        route(rt, plant, net, &mut space, Fit::First, order)?;
+fn routes<P: Plant, C: Cost>(
+    rt: &HostRuntime,
+    plant: &P,
+    net: &Network,
+    fit: Fit,
+    orders: [Order; 4],
+) -> anyhow::Result<()> {
+    let mut space: Space<C> = Space::new(rt.alloc())?;
+    for order in orders {
+        route(rt, plant, net, &mut space, fit, order)?;
     }
     Ok(())
 }
 
+// By length, on the lowest channel that has a path.
+pub fn office_routes<P: Plant>(rt: &HostRuntime, plant: &P, net: &Network) -> anyhow::Result<()> {
+    let orders = [
+        order(1, 3, 1, 10, 5),
+        order(1, 2, 1, 166, 2),
+        order(2, 3, 1, 20, 1),
+        order(1, 2, 3, 0, 1),
+    ];
+    routes::<P, Metres>(rt, plant, net, Fit::First, orders)
+}
+
 // By the worst loss, on the channel with the cheapest path.
 pub fn rack_routes<P: Plant>(rt: &HostRuntime, plant: &P, net: &Network) -> anyhow::Result<()> {
-    let mut space: Space<Loss> = Space::new(rt.alloc())?;
-    for order in [
+    let orders = [
         order(1, 3, 1, 10, 5),
         order(1, 4, 1, 0, 168),
         order(3, 4, 1, 3, 1),
         order(2, 3, 2, 3, 1),
-    ] {
-        route(rt, plant, net, &mut space, Fit::Best, order)?;
-    }
-    Ok(())
+    ];
+    routes::<P, Loss>(rt, plant, net, Fit::Best, orders)
 }

@@ -12,13 +12,6 @@ fn run(link: u8, channel: u8, first: u8, hours: u8) -> Run {
     }
 }
 
-fn show_run(rt: &HostRuntime, verb: &str, run: Run) -> io::Result<()> {
-    print!(rt;
-        "  {verb} link {} channel {} from hour {} for {}: ",
-        run.link, run.channel, run.first, run.hours
-    )
-}
-
 fn show_answer<P: Plant>(
     rt: &HostRuntime,
     plant: &P,
@@ -36,19 +29,19 @@ fn show_answer<P: Plant>(
 }
 
 fn hold<P: Plant>(rt: &HostRuntime, plant: &mut P, run: Run) -> io::Result<()> {
-    show_run(rt, "hold", run)?;
+    print!(rt; "  hold {run}: ")?;
     let answer = plant.hold(run);
     show_answer(rt, plant, run.link, answer)
 }
 
 fn release<P: Plant>(rt: &HostRuntime, plant: &mut P, run: Run) -> io::Result<()> {
-    show_run(rt, "release", run)?;
+    print!(rt; "  release {run}: ")?;
     let answer = plant.release(run);
     show_answer(rt, plant, run.link, answer)
 }
 
 fn ask<P: Plant>(rt: &HostRuntime, plant: &P, run: Run) -> io::Result<()> {
-    show_run(rt, "ask for", run)?;
+    print!(rt; "  ask for {run}: ")?;
     match plant.first_taken(run) {
         Some(hour) => println!(rt; "hour {hour} is the first that is not free"),
         None => println!(rt; "free"),

@@ -6,7 +6,7 @@ ghost use Rattle.hour_bits.specs.Tables.{Placed, FreeAt, LiveAt, Spare};
 ghost use Rattle.bitmap.specs.Means.{map_means, Spares};
 
 use super::{Map, RefusedWords};
-use calendar::refusal::{MakingRefusal, PlantRefusal};
+use calendar::refusal::{MakingRefusal, PlantRefusal, Refused};
 use calendar::run::{Run, sizes_fit};
 use hour_bits::row::LiveRuns;
 use plant::Plant;
@@ -57,12 +57,12 @@ impl Map {
     pub fn new(words: Vec<u64>, links: u32, channels: u32) -> Result<Map, RefusedWords>
         ensures { MatchResult result
             (λ m. (map_number links channels (vec_len words) ≡ 0) × (map_means m ≡ open_plant links channels (links * channels * 168)) × Spare words.items m.words.items (links * channels * 6))
-            (λ e. (map_number links channels (vec_len words) ≡ making_number e.why) × (e.words ≡ words)) }
+            (λ e. (map_number links channels (vec_len words) ≡ making_number e.why) × (e.memory ≡ words)) }
     {
         // Either arm takes the words, so it is no `map_err`.
         match words_needed(words.len(), links, channels) {
             Ok(needed) => Ok(make(words, needed, links, channels)),
-            Err(why) => Err(RefusedWords { why, words }),
+            Err(why) => Err(Refused { why, memory: words }),
         }
     }
 

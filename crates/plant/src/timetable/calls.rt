@@ -8,7 +8,7 @@ ghost use Rattle.plant.specs.Means.{table_means};
 use super::rows::{clear_rows, row_free_hours};
 use super::{RefusedRows, Timetable};
 use crate::Plant;
-use calendar::refusal::{MakingRefusal, PlantRefusal};
+use calendar::refusal::{MakingRefusal, PlantRefusal, Refused};
 use calendar::run::{Run, Size, sizes_fit};
 
 impl Timetable {
@@ -16,18 +16,18 @@ impl Timetable {
     pub fn new(mut rows: Vec<Run>, links: u32, channels: u32) -> Result<Timetable, RefusedRows>
         ensures { MatchResult result
             (λ t. (table_number links channels (vec_len rows) ≡ 0) × (table_means t ≡ open_plant links channels (vec_len rows)))
-            (λ e. (table_number links channels (vec_len rows) ≡ making_number e.why) × (e.rows.items ≡ rows.items)) }
+            (λ e. (table_number links channels (vec_len rows) ≡ making_number e.why) × (e.memory.items ≡ rows.items)) }
     {
         if !sizes_fit(links, channels) {
-            return Err(RefusedRows {
+            return Err(Refused {
                 why: MakingRefusal::BadSizes,
-                rows,
+                memory: rows,
             });
         }
         if rows.len() > 4096 {
-            return Err(RefusedRows {
+            return Err(Refused {
                 why: MakingRefusal::BadMemory,
-                rows,
+                memory: rows,
             });
         }
         clear_rows(&mut rows);

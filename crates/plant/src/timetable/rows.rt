@@ -5,7 +5,7 @@ ghost use Rattle.calendar.specs.Rows.{Kept, no_run, on_cell, tabled};
 ghost use Rattle.plant.specs.Means.{link_hours, table_means};
 
 use super::Timetable;
-use calendar::hours::{covers_hour, hours_until};
+use calendar::hours::covers_hour;
 use calendar::run::Run;
 
 // Whether the row's run covers the cell.
@@ -17,10 +17,10 @@ fn row_on_cell(row: Run, link: u8, channel: u8, hour: u8) -> bool
 
 // How many hours of the run come before one that the row's run covers: all, where it is on another channel.
 pub(crate) fn row_free_hours(row: Run, run: Run) -> u8
-    ensures { result ≡ (if run.link == row.link && run.channel == row.channel then min (until row.first row.hours run.first) run.hours else run.hours) }
+    ensures { result ≡ (if run.link == row.link && run.channel == row.channel then min run.hours (until row.first row.hours run.first) else run.hours) }
 {
     if run.link == row.link && run.channel == row.channel {
-        hours_until(row.first, row.hours, run.first).min(run.hours)
+        run.hours_before(row.first, row.hours)
     } else {
         run.hours
     }
