@@ -36,5 +36,7 @@ impl<C: Cost> Searched<C> {
 }
 
 pub fn plain_answer<C: PlainCost>(listed: &ListNetwork, from: u8, to: u8) -> Answer {
-    plain_path::<C>(listed, from, to).map(|list| (list.count, list.links))
+    let list = plain_path::<C>(listed, from, to)?;
+    let links = list.links;
+    Some((list.count, links))
 }
