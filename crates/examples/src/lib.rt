@@ -1,7 +1,5 @@
 #![tactic(auto)]
 
-pub mod sample;
-
 ghost use Rattle.std.specs.Prelude.{◌≡◌, length};
 ghost use Rattle.examples.specs.Examples.{examples, ExamplesStand};
 

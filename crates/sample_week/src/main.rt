@@ -4,10 +4,10 @@ mod calls;
 mod listing;
 
 use calls::sample_calls;
-use examples::sample::{sample_network, sample_plant};
 use listing::{show_answers, show_report};
 use network::metres::Metres;
 use planner::planner::{Planner, Workspace};
+use sample::{sample_network, sample_plant};
 use ways::fit::Fit;
 
 // Makes the sample file's calls as one list, on a planner by length and first fit on windows over a map, and prints

@@ -5,9 +5,9 @@ mod routes;
 mod steps;
 
 use examples::examples_stand;
-use examples::sample::{sample_network, sample_plant};
 use piles::rack;
 use routes::{office_routes, rack_routes};
+use sample::{sample_network, sample_plant};
 use steps::{office_steps, rack_steps};
 
 fn tour_office(rt: &HostRuntime) -> anyhow::Result<()> {

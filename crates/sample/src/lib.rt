@@ -1,6 +1,8 @@
-ghost use Rattle.std.specs.Prelude.{◌≡◌, IfOk, List};
+#![tactic(auto)]
+
+ghost use Rattle.std.specs.Prelude.{◌≡◌, IfOk, List, slice_index_or};
 ghost use Rattle.bitmap.specs.Means.{map_means};
-ghost use Rattle.calendar.specs.Layers.{windowed};
+ghost use Rattle.calendar.specs.Layers.{windowed, nowhere};
 ghost use Rattle.calendar.specs.Making.{open_plant};
 ghost use Rattle.calendar.specs.declared.run.Window.{Window};
 ghost use Rattle.layers.specs.Means.{windows_means};
@@ -33,7 +35,7 @@ pub fn sample_network(heap: Global) -> anyhow::Result<Network>
 
 // Two channels on each of four links, and link 2 shut from hour 20 for 4 hours.
 pub fn sample_plant(heap: Global) -> anyhow::Result<Windows<Map>>
-    ensures { IfOk result (λ plant. (windows : List Window) × (windows_means map_means plant ≡ windowed windows 1 (open_plant 4 2 1344))) }
+    ensures { IfOk result (λ plant. (windows : List Window) × (slice_index_or windows 0 nowhere ≡ record { link = 2; first = 20; hours = 4 }) × (windows_means map_means plant ≡ windowed windows 1 (open_plant 4 2 1344))) }
 {
     let mut windows = WindowTable::new();
     windows.add(2, 20, 4)?;
