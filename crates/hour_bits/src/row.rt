@@ -114,7 +114,11 @@ fn count_rows(rows: &[[u64; 6]], at: usize) -> u32
     requires inside { at ≤ 3 }
     ensures { result ≡ sum_by (λ (r : List ℕ). bit_count (row r at)) rows.now }
 {
-    rows.iter().map(|row| row_count(row, at)).sum()
+    let mut count = 0;
+    for row in rows {
+        count += row_count(row, at);
+    }
+    count
 }
 
 // How many hours are held, over the six words of each of some channels.

@@ -1,3 +1,4 @@
+use anyhow::anyhow;
 use network::link::Link;
 use network::network::Network;
 use std::alloc::{AllocError, Global};
@@ -15,7 +16,7 @@ pub struct Case {
 type Figures = (u32, u32, u32, u32);
 
 fn with_links(heap: Global, places: u32, links: &[Figures]) -> anyhow::Result<Network> {
-    let mut net = Network::new(heap, places, 8)?;
+    let mut net = Network::new(heap, places, 8).map_err(|_| anyhow!("no network"))?;
     for (one, two, metres, loss) in links {
         net.add(Link::new(*one, *two, *metres, *loss)?)?;
     }

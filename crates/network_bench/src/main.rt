@@ -27,10 +27,9 @@ fn show<F: Finder>(
     how: &str,
 ) -> anyhow::Result<()> {
     let name = case.name;
-    print!(rt; "{name}, {cost}, {how}: ")?;
     match finder.find(&case.net, case.shown.0, case.shown.1) {
-        Some(path) => println!(rt; "links {path}")?,
-        None => println!(rt; "no path")?,
+        Some(path) => println!(rt; "{name}, {cost}, {how}: links {path}")?,
+        None => println!(rt; "{name}, {cost}, {how}: no path")?,
     }
     Ok(())
 }

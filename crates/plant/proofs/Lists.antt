@@ -1,16 +1,13 @@
 -- The calendar's tests, sums and least numbers by index, as the chains over a list of std give them.
-use Rattle.std.proofs.Common.{◌≡◌, ℕ, zero, suc, ◌+◌, ◌-◌, ◌≤◌, min, Bool, true, false, cond, eqb, List, [], ◌∷◌, length, get_or, filter, sum_by, count_by, sym, refl, ◌∙◌, ⊎_elim, arith}
+use Rattle.std.proofs.Common.{◌≡◌, ℕ, zero, suc, ◌+◌, ◌-◌, ◌≤◌, min, Bool, false, cond, eqb, List, [], ◌∷◌, length, get_or, sum_by, count_by, sym, refl, ◌∙◌, ⊎_elim, arith}
 use Rattle.std.specs.List.{list_any, fold}
-use Rattle.std.proofs.lemmas.Bool.{cases_eq, cases_Bool, eq-eqb, ne_eqb}
+use Rattle.std.proofs.lemmas.Bool.{cases_eq, eq-eqb, ne_eqb}
 use Rattle.std.proofs.lemmas.List.Recursion.{or_is, is_sum_by, is_count_by}
-use Rattle.std.proofs.lemmas.List.Sums.{sum-map, sum_by-cons}
 use Rattle.calendar.specs.Week.{any, total, least}
 use Rattle.calendar.specs.Rows.{no_run, used}
 use Rattle.calendar.specs.declared.run.Run.{Run}
 use Rattle.calendar.proofs.Sums.{any_elim, any_none, total_most}
-use Rattle.calendar.proofs.Counted.{row_held}
 use Rattle.calendar.proofs.Leasts.{least_law, least_none, least_or, least_cong}
-use Rattle.plant.specs.Means.{link_hours}
 
 pub any_list : {X : Type 0} (p : X → Bool) (xs : List X) (d : X) → any (length xs) (λ i. p (get_or xs i d)) ≡ list_any p xs
 any_list p xs d =
@@ -51,9 +48,3 @@ spare_list rows = sym (is_count_by (λ rs. length rs - used rs) (λ r. eqb r.hou
       (λ (e : r.hours ≡ 0). rw (eq-eqb r.hours 0 e) (omega (arith, front, most, e)))
       (λ e. rw (ne_eqb r.hours 0 e) (omega (arith, front, most, e)))
       (cases_eq r.hours 0)
-
--- the hours on a link, row by row
-pub link_sum : (rows : List Run) (l : ℕ) → link_hours rows l ≡ sum_by (λ r. row_held r l) rows
-link_sum rows l = sum-map (λ r. r.hours) (filter (λ r. eqb r.link l) rows) ∙ is_sum_by (λ rs. sum_by (λ r. r.hours) (filter (λ r. eqb r.link l) rs)) (λ r. row_held r l) refl step rows where
-  step : (r : Run) (rs : List Run) → sum_by (λ r. r.hours) (filter (λ r. eqb r.link l) (r ∷ rs)) ≡ row_held r l + sum_by (λ r. r.hours) (filter (λ r. eqb r.link l) rs)
-  step r rs = ⊎_elim (λ (e : eqb r.link l ≡ true). rw e (sum_by-cons (λ r. r.hours) r (filter (λ r. eqb r.link l) rs))) (λ (e : eqb r.link l ≡ false). rw e (omega arith)) (cases_Bool (eqb r.link l))

@@ -2,7 +2,7 @@
 --
 --   table_means t      the plant whose live runs are those that the rows of t name
 --   link_hours rows l  the hours of those rows that are on link l, added up
-use Rattle.std.specs.Prelude.{ℕ, List, vec_items, filter, map, sum, ◌==◌}
+use Rattle.std.specs.Prelude.{ℕ, if◌then◌else◌, List, vec_items, sum_by, ◌==◌}
 use Rattle.calendar.specs.Meaning.{Meaning}
 use Rattle.calendar.specs.Rows.{tabled}
 use Rattle.calendar.specs.declared.run.Run.{Run}
@@ -12,4 +12,4 @@ abbrev pub table_means : Timetable → Meaning
 table_means t = tabled (vec_items t.rows) t.links t.channels
 
 abbrev pub link_hours : List Run → ℕ → ℕ
-link_hours rows l = sum (map (λ (r : Run). r.hours) (filter (λ (r : Run). r.link == l) rows))
+link_hours rows l = sum_by (λ (r : Run). if r.link == l then r.hours else 0) rows

@@ -46,18 +46,17 @@ fn measure<S: Subject>(
     hours: u8,
     mode: Mode,
 ) -> anyhow::Result<()> {
-    print!(rt; "{name}, runs of {hours} hours: ")?;
     match mode {
         Mode::Once => {
             let done = all_rounds(subject, 1, hours);
-            println!(rt; "{done} calls done")?;
+            println!(rt; "{name}, runs of {hours} hours: {done} calls done")?;
         }
         Mode::Timed { rounds } => {
             let start = Instant::now(rt)?;
             let done = all_rounds(subject, rounds, hours);
             let micros = start.elapsed(rt)?.as_micros();
             let rate = (done as u128).saturating_mul(1_000_000) / micros.max(1);
-            println!(rt; "{rate} calls a second")?;
+            println!(rt; "{name}, runs of {hours} hours: {rate} calls a second")?;
         }
     }
     Ok(())

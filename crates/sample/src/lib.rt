@@ -7,6 +7,7 @@ ghost use Rattle.calendar.specs.Making.{open_plant};
 ghost use Rattle.calendar.specs.declared.run.Window.{Window};
 ghost use Rattle.layers.specs.Means.{windows_means};
 
+use anyhow::anyhow;
 use bitmap::map::Map;
 use layers::window_table::WindowTable;
 use layers::windows::Windows;
@@ -26,7 +27,8 @@ const LINKS: [(u32, u32, u32, u32); 4] = [
 pub fn sample_network(heap: Global) -> anyhow::Result<Network>
     ensures { IfOk result (λ net. (net.places ≡ 4) × (net.hops ≡ 3)) }
 {
-    let mut net = Network::new(heap, 4, 3)?;
+    // Want of memory is told in the same words as the network's own refusal.
+    let mut net = Network::new(heap, 4, 3).map_err(|_| anyhow!("the network is refused"))?;
     for (one, two, metres, loss) in LINKS {
         net.add(Link::new(one, two, metres, loss)?)?;
     }

@@ -10,9 +10,11 @@ use crate::cost::Cost;
 fn cheaper<C: Cost>(x: Option<C>, y: Option<C>) -> Option<C>
     ensures { result ≡ better C.kind.at_most x y }
 {
+    // With `x.or(y)` in place of the first two arms a search takes a fifth more instructions.
     match (x, y) {
+        (None, _) => y,
+        (Some(_), None) => x,
         (Some(a), Some(b)) => { if a.at_most(b) { x } else { y } }
-        _ => x.or(y),
     }
 }
 
@@ -48,19 +50,21 @@ impl<C: Copy> Scratch<C> {
 
 impl<C: Cost> Scratch<C> {
     // The cost of going over a link to w, where j links are ahead.
+    // A search comes here and to `offer` most; with the row and the place known to lie within, neither tests its index.
     fn by_way_of(&self, j: u8, price: C, w: u8) -> Option<C>
+        requires { (j < 9) × (w < 33) }
         ensures { result ≡ extended C.kind.joined price (cell_at self.now.cells.items j w) }
     {
-        self.cell(j, w).map(|c| price.join(c))
+        self.cells[j as usize * 33 + w as usize].map(|c| price.join(c))
     }
 
     // Keeps a cost of j links at v, if it is less than that known there.
     fn offer(&mut self, j: u8, v: u8, cost: Option<C>)
+        requires { (j < 9) × (v < 33) }
         ensures { self.new.cells.items ≡ slice_set self.old.cells.items (j * 33 + v) (better C.kind.at_most (cell_at self.old.cells.items j v) cost) }
     {
-        if let Some(known) = self.cells.get_mut(j as usize * 33 + v as usize) {
-            *known = cheaper(*known, cost);
-        }
+        let known = &mut self.cells[j as usize * 33 + v as usize];
+        *known = cheaper(*known, cost);
     }
 
     // Offers a link that may be used to both of its ends, in the row after row j.

@@ -12,4 +12,4 @@ returns c =
     let test = λ (r : Row). eqb r.order.number c.args.number in
     let first : c.position.result ≡ position test rows
     = position_from_yields_List test _ _ c.position.result c.position.ensures.ran (YieldsList-from_slice rows cc) (λ x b q k. search (rules, tests)) in
-    found_by c.args.number rows c.position.result first
+    found_by c.args.number rows _ (search (first, rules))
